@@ -1,0 +1,19 @@
+//! The layout of the heap: how large an object is, which types there are, and what a header word says.
+//!
+//! Every object is a header word, a forwarding word, its slots and then its number fields, so its size
+//! in words follows from its type's shape alone. The table of types holds the shapes by type number, and
+//! type 0 is the common object's. A header word packs the type number and four flags of the collector.
+//! All other crates stand on this one, and it stands on nothing.
+#![tactic(auto)]
+
+mod head;
+mod shape;
+mod types;
+
+pub use head::Head;
+pub use shape::{Shape, TypeNo};
+pub use types::{AddFault, Types};
+
+/// Want of memory.
+#[derive(Clone, Copy, Debug, PartialEq, Eq)]
+pub struct NoMemory;
