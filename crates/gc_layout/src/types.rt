@@ -88,4 +88,11 @@ impl Types {
     {
         self.shapes.len() as u16
     }
+
+    /// The shapes of all types, by type number.
+    pub fn as_slice(&self) -> &[Shape]
+        ensures { result.now ≡ self.now }
+    {
+        self.shapes.as_slice()
+    }
 }

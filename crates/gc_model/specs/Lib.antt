@@ -1,0 +1,9 @@
+pub mod Answer
+pub mod Graph
+pub mod History
+pub mod Interim
+pub mod Plain
+pub mod Reach
+pub mod World
+pub use Rattle.gc_layout.specs.Shape
+pub use Rattle.gc_layout.specs.Types
