@@ -98,14 +98,14 @@ abbrev pub answer : List Shape → World → ℕ → Call → Bool → Answer
 answer types world t call room =
     if is_blocked world t && not (suits_blocked call) then keeps world Blocked else (if wants_blocked call && not (is_blocked world t) then keeps world NotBlocked else effect types world t room call)
 
--- a call's type is known, and its place on the common object is below 16
-abbrev pub SuitsTypes : List Shape → Call → Type 0
-SuitsTypes types (New into ty) = ty.0 < length types
-SuitsTypes types (Share place value) = place < 16
-SuitsTypes types (Take into place) = place < 16
-SuitsTypes types (Await into place) = place < 16
-SuitsTypes types call = Unit {0}
+-- a call's type is one of so many, and its place on the common object is below 16
+abbrev pub Suits : ℕ → Call → Type 0
+Suits types (New into ty) = ty.0 < types
+Suits types (Share place value) = place < 16
+Suits types (Take into place) = place < 16
+Suits types (Await into place) = place < 16
+Suits types call = Unit {0}
 
 -- a fit call: the mutator is there, the type is known, and the place of the common object is below 16
 abbrev pub IsFit : List Shape → ℕ → ℕ → Call → Type 0
-IsFit types mutators t call = (t < mutators) × SuitsTypes types call
+IsFit types mutators t call = (t < mutators) × Suits (length types) call

@@ -1,0 +1,63 @@
+-- The kinds of words.
+use Rattle.std.specs.Prelude.{ℕ, ◌+◌, ◌^◌, List, [], ◌∷◌, length, Option, Some, None, Result, Ok, Err, Bool, true, false, not, ◌&&◌, ◌==◌, nat_lt, nat_le, if◌then◌else◌}
+use Rattle.std.specs.Char.{is_ascii_digit}
+use Rattle.std.specs.Int.{is_in_range}
+use Rattle.std.specs.Str.{all_ascii_digits, bytes_eq}
+use Rattle.std.specs.List.{list_all}
+use Rattle.std.specs.Str.Parse.{digits_value}
+use Rattle.gc_layout.specs.declared.shape.TypeNo.{TypeNo}
+use Rattle.gc_script.specs.declared.fault.Cause.{Cause}
+use Rattle.gc_script.specs.declared.fault.Cause.TheVariants.{Number, Register, «Type» as TypeCause, Duplicate}
+
+-- `0`, or a digit 1 to 9 and then digits
+abbrev pub is_numeral : List ℕ → Bool
+is_numeral [] = false
+is_numeral (first ∷ []) = is_ascii_digit first
+is_numeral (first ∷ second ∷ rest) = not (first == 48) && all_ascii_digits (first ∷ second ∷ rest)
+
+-- the number that a numeral writes, where it is below 2 ^ 64
+unfoldable pub numeral : List ℕ → Option ℕ
+numeral word = if is_numeral word && nat_lt (digits_value 10 word) (2 ^ 64) then Some (digits_value 10 word) else None
+
+-- a value below a limit
+abbrev pub kept_below : ℕ → Cause → Option ℕ → Result ℕ Cause
+kept_below limit cause None = Err cause
+kept_below limit cause (Some value) = if nat_lt value limit then Ok value else Err cause
+
+-- a number below a limit
+unfoldable pub number_below : ℕ → Cause → List ℕ → Result ℕ Cause
+number_below limit cause word = kept_below limit cause (numeral word)
+
+-- a number, at most 18446744073709551615
+abbrev pub number : List ℕ → Result ℕ Cause
+number word = number_below (2 ^ 64) Number word
+
+-- a number at most 255
+abbrev pub small : List ℕ → Result ℕ Cause
+small word = number_below 256 Number word
+
+-- a number at most 15, a place of the common object
+abbrev pub common_place : List ℕ → Result ℕ Cause
+common_place word = number_below 16 Number word
+
+-- `r` and a number at most 15
+unfoldable pub register : List ℕ → Result ℕ Cause
+register [] = Err Register
+register (letter ∷ digits) = if letter == 114 then number_below 16 Register digits else Err Register
+
+-- `a` to `z`
+abbrev pub is_letter : ℕ → Bool
+is_letter byte = is_in_range 97 122 byte
+
+-- 1 to 16 bytes `a` to `z`
+abbrev pub is_type_name : List ℕ → Bool
+is_type_name word = nat_lt 0 (length word) && (nat_le (length word) 16 && list_all is_letter word)
+
+-- the type of a declared name, where the names are those of the types from this number on
+unfoldable pub type_from : ℕ → List (List ℕ) → List ℕ → Result TypeNo Cause
+type_from ty [] word = Err TypeCause
+type_from ty (name ∷ names) word = if bytes_eq name word then Ok (record { 0 = ty }) else type_from (ty + 1) names word
+
+-- the type of a name that is declared in the script; the types are numbered from 1 in order of their lines
+abbrev pub type_named : List (List ℕ) → List ℕ → Result TypeNo Cause
+type_named names word = type_from 1 names word

@@ -1,0 +1,19 @@
+//! The script language.
+//!
+//! A script is a text of lines, and a line is cut into words at single spaces. The first line names the
+//! version, the second says how many mutators there are, the type lines declare types by a name and a
+//! shape, and each further line is a call of a mutator. Each kind of word and of line has its tests in a
+//! fixed order, and the first test that fails in the first bad line is the script's fault. The reader
+//! goes over the bytes line by line; its contract is the grammar in specs/.
+#![tactic(auto)]
+
+mod call_line;
+mod cut;
+mod fault;
+mod names;
+mod preamble;
+mod script;
+mod words;
+
+pub use fault::ScriptFault;
+pub use script::Script;

@@ -1,0 +1,86 @@
+ghost use Rattle.std.specs.Prelude.{◌≡◌, ◌+◌, ◌≤◌, ◌↔◌, length, slice_get, IsNone, IfSome};
+ghost use Rattle.gc_model.specs.Answer.{IsFit};
+
+use crate::preamble::Preamble;
+use gc_layout::Types;
+use gc_model::Line;
+use std::marker::Model;
+
+/// The number of the first line behind the version line and the line of the mutators.
+const FIRST_LINE: u32 = 3;
+
+/// A script: the number of mutators, the types with their names, and the call lines. Each line is fit:
+/// its mutator is there, its type is declared, and its place of the common object is below 16.
+#[derive(Debug, Drop)]
+pub struct Script {
+    preamble: Preamble,
+    lines: Vec<Line>,
+}
+
+impl Model for Script {
+    ghost use Rattle.std.specs.Prelude.{◌≤◌, length, All};
+    ghost use Rattle.gc_script.specs.Script.{Script as Text, IsFitLine};
+
+    ghost Value = { Text };
+
+    ghost view = { λ s. record { preamble = s.preamble; lines = s.lines.items } };
+
+    ghost invariant = { λ s. (length s.lines.items ≤ 16777216) × All (IsFitLine s.preamble) s.lines.items };
+}
+
+impl Script {
+    ghost use Rattle.std.specs.Prelude.{All};
+    ghost use Rattle.gc_script.specs.Script.{IsFitLine, number_of_line};
+
+    pub(crate) fn new(preamble: Preamble, lines: Vec<Line>) -> Script
+        requires few { length lines.items ≤ 16777216 }
+        requires fit { All (IsFitLine preamble) lines.items }
+        ensures { result ≡ record { preamble = preamble; lines = lines.items } }
+    {
+        Script { preamble, lines }
+    }
+
+    /// How many mutators there are, 1 to 8.
+    pub fn mutators(&self) -> u8
+        ensures { result ≡ self.now.preamble.mutators }
+    {
+        self.preamble.mutators()
+    }
+
+    /// The types, by number; type 0 is the common object's.
+    pub fn types(&self) -> &Types
+        ensures { result.now ≡ self.now.preamble.types }
+    {
+        self.preamble.types()
+    }
+
+    /// How many call lines there are.
+    pub fn count(&self) -> usize
+        ensures count { result ≡ length self.now.lines }
+        ensures most { result ≤ 16777216 }
+    {
+        self.lines.len()
+    }
+
+    /// A call line, counted from 0. None exactly where `i` isn't below the count.
+    pub fn line(&self, i: usize) -> Option<Line>
+        ensures line { result ≡ slice_get self.now.lines i }
+        ensures none { IsNone result ↔ (length self.now.lines ≤ i) }
+        ensures fit { IfSome result (IsFitLine self.now.preamble) }
+    {
+        self.lines.get(i).copied()
+    }
+
+    /// The number in the text, from 1, of a call line counted from 0. None exactly where `i` isn't below
+    /// the count.
+    pub fn line_number(&self, i: usize) -> Option<u32>
+        ensures number { IfSome result (λ number. number ≡ number_of_line self.now i) }
+        ensures none { IsNone result ↔ (length self.now.lines ≤ i) }
+    {
+        if i >= self.lines.len() {
+            return None;
+        }
+        let declared = self.preamble.names().len();
+        Some(FIRST_LINE + declared as u32 + i as u32)
+    }
+}
