@@ -1,3 +1,4 @@
 pub mod Faults
-pub mod Memory
+pub mod Store
 pub mod Streams
+pub mod Supply
