@@ -40,5 +40,5 @@ supply_after supply answer =
     record supply {
       rest = rest_after supply.rest answer;
       calls = one_more supply.calls;
-      faults = faults_after supply.faults answer
+      faults = faults_after supply.faults answer;
     }

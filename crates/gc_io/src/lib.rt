@@ -8,14 +8,18 @@
 
 mod gate;
 mod held;
+mod memory_sink;
 mod memory_source;
 mod sink;
 mod source;
+mod steady_source;
 
 pub use gate::{Gate, OpenGate};
+pub use memory_sink::MemorySink;
 pub use memory_source::MemorySource;
 pub use sink::{Put, Sink};
 pub use source::{Source, Taken};
+pub use steady_source::SteadySource;
 
 /// Want of memory.
 #[derive(Clone, Copy, Debug, PartialEq, Eq)]
