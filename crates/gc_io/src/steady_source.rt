@@ -47,11 +47,7 @@ impl Source for SteadySource {
         ensures given { (count : ℕ) → result ≡ Bytes count
             → GivesUp (Some self.old) (Some self.new) (take count room.new) }
         ensures end { result ≡ End → self.old ≡ [] }
-        ensures end_stays { result ≡ End → Some self.new ≡ Some self.old }
-        ensures failed { result ≡ Failed → HasRisen 0 0 }
-        ensures failed_stays { result ≡ Failed → Some self.new ≡ Some self.old }
-        ensures never_falls { 0 ≤ 0 }
-
+        ensures never_fails { result ≢ Failed }
         ensures answer { result ≡ given_of self.old (length room.old) }
         ensures rest { self.new ≡ rest_after self.old result }
     {
