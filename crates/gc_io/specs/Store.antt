@@ -22,7 +22,21 @@ is_refused store piece =
 abbrev pub next_answer : Store → List ℕ → Put
 next_answer store piece = if is_refused store piece then Failed else All
 
+-- what is written after a call with this piece and this answer
+abbrev pub written_after : List ℕ → List ℕ → Put → List ℕ
+written_after written piece All = written ++ piece
+written_after written piece Failed = written
+
+-- the count of faults after a call with this answer
+abbrev pub faults_after : ℕ → Put → ℕ
+faults_after faults All = faults
+faults_after faults Failed = one_more faults
+
 -- the store after a call with this piece and this answer
 abbrev pub store_after : Store → List ℕ → Put → Store
-store_after store piece All = record store { written = store.written ++ piece; calls = one_more store.calls }
-store_after store piece Failed = record store { calls = one_more store.calls; faults = one_more store.faults }
+store_after store piece answer =
+    record store {
+      written = written_after store.written piece answer;
+      calls = one_more store.calls;
+      faults = faults_after store.faults answer
+    }

@@ -12,6 +12,8 @@ mod memory_sink;
 mod memory_source;
 mod sink;
 mod source;
+mod std_sink;
+mod std_source;
 mod steady_source;
 
 pub use gate::{Gate, OpenGate};
@@ -19,6 +21,8 @@ pub use memory_sink::MemorySink;
 pub use memory_source::MemorySource;
 pub use sink::{Put, Sink};
 pub use source::{Source, Taken};
+pub use std_sink::StdSink;
+pub use std_source::StdSource;
 pub use steady_source::SteadySource;
 
 /// Want of memory.
