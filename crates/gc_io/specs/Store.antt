@@ -38,5 +38,5 @@ store_after store piece answer =
     record store {
       written = written_after store.written piece answer;
       calls = one_more store.calls;
-      faults = faults_after store.faults answer
+      faults = faults_after store.faults answer;
     }

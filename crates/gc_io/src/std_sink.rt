@@ -1,4 +1,4 @@
-ghost use Rattle.std.specs.Prelude.{◌≡◌, ℕ, ◌≤◌, List, [], Option, None, OnTrue, ◌↔◌, IsTrue};
+ghost use Rattle.std.specs.Prelude.{◌≡◌, ℕ, ◌≤◌, List, [], Option, None, ◌↔◌, IsTrue};
 ghost use Rattle.std.specs.Io.KnownBytes.{Appends, Keeps};
 ghost use Rattle.gc_io.specs.Adapter.{AppendsFirst};
 ghost use Rattle.gc_io.specs.Faults.{HasRisen};
@@ -41,6 +41,7 @@ impl<W: Write + Drop> StdSink<W> {
     pub fn finish(&mut self) -> Put
         ensures kept { Keeps (W.contents self.old.inner) (W.contents self.new.inner) }
         ensures failed { result ≡ Failed → HasRisen self.old.faults self.new.faults }
+        ensures never_falls { self.old.faults ≤ self.new.faults }
         ensures count { self.new.faults ≡ faults_after self.old.faults result }
     {
         let flushed = flush_all(&mut self.writer);
@@ -52,6 +53,7 @@ impl<W: Write + Drop> StdSink<W> {
         ensures answer { IsTrue done ↔ (result ≡ All) }
         ensures inner { self.new.inner ≡ self.old.inner }
         ensures failed { result ≡ Failed → HasRisen self.old.faults self.new.faults }
+        ensures never_falls { self.old.faults ≤ self.new.faults }
         ensures count { self.new.faults ≡ faults_after self.old.faults result }
     {
         if done {
@@ -89,7 +91,7 @@ impl<W: Write + Drop> Sink for StdSink<W> {
 /// Writes the piece, and says whether all of it was taken. A write that takes nothing is a fault, and one
 /// that a signal interrupts is made again.
 fn write_whole<W: Write>(writer: &mut W, piece: &[u8]) -> bool
-    ensures whole { OnTrue result (Appends (W.contents writer.old) (W.contents writer.new) piece.now) }
+    ensures whole { IsTrue result → Appends (W.contents writer.old) (W.contents writer.new) piece.now }
     ensures first_bytes { AppendsFirst (W.contents writer.old) (W.contents writer.new) piece.now }
     ensures empty { piece.now ≡ [] → IsTrue result }
 {
