@@ -15,6 +15,8 @@ mod source;
 mod std_sink;
 mod std_source;
 mod steady_source;
+#[cfg(test)]
+mod tests;
 
 pub use gate::{Gate, OpenGate};
 pub use memory_sink::MemorySink;
