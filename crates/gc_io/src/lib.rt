@@ -3,9 +3,11 @@
 //! A source gives bytes, a sink takes them, and each counts its faults. What a source has left and what
 //! a sink has got are part of their meaning where they tell them, so that a contract above can say which
 //! bytes were read and written. Sources and sinks in memory tell them, and can be made to fail at chosen
-//! calls. A gate lets a worker's lines pass or holds them back.
+//! calls. Those over std's readers and writers tell nothing, since no contract can say what a file or a
+//! terminal holds. A gate lets a worker's lines pass or holds them back.
 #![tactic(auto)]
 
+mod failing;
 mod gate;
 mod held;
 mod memory_sink;

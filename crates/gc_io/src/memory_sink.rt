@@ -1,9 +1,9 @@
-ghost use Rattle.std.specs.Prelude.{◌≡◌, ℕ, ◌≤◌, List, [], Option, Some, IfOk};
+ghost use Rattle.std.specs.Prelude.{◌≡◌, ◌≤◌, [], Some, IfOk};
 ghost use Rattle.gc_io.specs.Faults.{HasRisen};
 ghost use Rattle.gc_io.specs.Streams.{Appends, AppendsPrefix};
 ghost use Rattle.gc_io.specs.declared.sink.Put.TheVariants.{All, Failed};
 
-use crate::memory_source::lists;
+use crate::failing::lists;
 use crate::{NoMemory, Put, Sink};
 use std::alloc::Global;
 use std::marker::Model;

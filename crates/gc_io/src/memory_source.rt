@@ -1,8 +1,9 @@
-ghost use Rattle.std.specs.Prelude.{◌≡◌, ◌↔◌, ℕ, ◌<◌, ◌≤◌, List, [], length, take, drop, Option, Some, IfSome, IsTrue, true, min};
-ghost use Rattle.gc_io.specs.Faults.{HasRisen, one_more, is_listed};
+ghost use Rattle.std.specs.Prelude.{◌≡◌, ℕ, ◌<◌, ◌≤◌, [], length, take, Some};
+ghost use Rattle.gc_io.specs.Faults.{HasRisen};
 ghost use Rattle.gc_io.specs.Streams.{GivesUp};
 ghost use Rattle.gc_io.specs.declared.source.Taken.TheVariants.{Bytes, End, Failed};
 
+use crate::failing::lists;
 use crate::held::Held;
 use crate::{Source, Taken};
 use std::marker::Model;
@@ -86,11 +87,4 @@ impl Source for MemorySource {
         }
         Taken::Bytes(self.held.give(self.step, room))
     }
-}
-
-/// Whether the call of this number is listed.
-pub(crate) fn lists(numbers: &[u32], call: u64) -> bool
-    ensures { result ≡ is_listed call numbers.now }
-{
-    numbers.iter().any(|listed| u64::from(*listed) == call)
 }

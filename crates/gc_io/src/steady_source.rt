@@ -1,5 +1,4 @@
-ghost use Rattle.std.specs.Prelude.{◌≡◌, ◌≢◌, ℕ, ◌<◌, ◌≤◌, List, [], length, take, drop, Option, Some, IfSome};
-ghost use Rattle.gc_io.specs.Faults.{HasRisen};
+ghost use Rattle.std.specs.Prelude.{◌≡◌, ◌≢◌, ℕ, ◌<◌, ◌≤◌, [], length, take, Some};
 ghost use Rattle.gc_io.specs.Streams.{GivesUp};
 ghost use Rattle.gc_io.specs.declared.source.Taken.TheVariants.{Bytes, End, Failed};
 
