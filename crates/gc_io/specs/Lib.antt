@@ -1,3 +1,5 @@
+pub mod Adapter
 pub mod Faults
-pub mod Memory
+pub mod Store
 pub mod Streams
+pub mod Supply

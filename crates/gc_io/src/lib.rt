@@ -3,18 +3,31 @@
 //! A source gives bytes, a sink takes them, and each counts its faults. What a source has left and what
 //! a sink has got are part of their meaning where they tell them, so that a contract above can say which
 //! bytes were read and written. Sources and sinks in memory tell them, and can be made to fail at chosen
-//! edge. A gate lets a worker's lines pass or holds them back.
+//! calls. Those over std's readers and writers tell nothing, since no contract can say what a file or a
+//! terminal holds. A gate lets a worker's lines pass or holds them back.
 #![tactic(auto)]
 
+mod failing;
 mod gate;
+mod held;
+mod memory_sink;
 mod memory_source;
 mod sink;
 mod source;
+mod std_sink;
+mod std_source;
+mod steady_source;
+#[cfg(test)]
+mod tests;
 
 pub use gate::{Gate, OpenGate};
+pub use memory_sink::MemorySink;
 pub use memory_source::MemorySource;
 pub use sink::{Put, Sink};
 pub use source::{Source, Taken};
+pub use std_sink::StdSink;
+pub use std_source::StdSource;
+pub use steady_source::SteadySource;
 
 /// Want of memory.
 #[derive(Clone, Copy, Debug, PartialEq, Eq)]

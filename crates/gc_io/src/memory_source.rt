@@ -1,16 +1,17 @@
-ghost use Rattle.std.specs.Prelude.{◌≡◌, ℕ, ◌<◌, ◌≤◌, List, [], length, take, drop, Option, Some, IfSome};
-ghost use Rattle.gc_io.specs.Faults.{HasRisen, one_more};
+ghost use Rattle.std.specs.Prelude.{◌≡◌, ℕ, ◌<◌, ◌≤◌, [], length, take, Some};
+ghost use Rattle.gc_io.specs.Faults.{HasRisen};
 ghost use Rattle.gc_io.specs.Streams.{GivesUp};
 ghost use Rattle.gc_io.specs.declared.source.Taken.TheVariants.{Bytes, End, Failed};
 
+use crate::failing::lists;
+use crate::held::Held;
 use crate::{Source, Taken};
 use std::marker::Model;
 
 /// A source of bytes in memory that gives at most so many bytes a call and fails at chosen calls.
 #[derive(Debug, Drop)]
 pub struct MemorySource {
-    bytes: Vec<u8>,
-    at: usize,
+    held: Held,
     step: usize,
     failing: Vec<u32>,
     calls: u64,
@@ -18,24 +19,24 @@ pub struct MemorySource {
 }
 
 impl Model for MemorySource {
-    ghost use Rattle.std.specs.Prelude.{◌<◌, ◌≤◌, drop, length};
-    ghost use Rattle.gc_io.specs.Memory.{Supply};
+    ghost use Rattle.std.specs.Prelude.{◌<◌};
+    ghost use Rattle.gc_io.specs.Supply.{Supply};
 
     ghost Value = { Supply };
 
     ghost view = { λ s. record {
-      rest = drop s.at s.bytes.items;
+      rest = s.held;
       step = s.step;
       failing = s.failing.items;
       calls = s.calls;
       faults = s.faults;
     } };
 
-    ghost invariant = { λ s. (s.at ≤ length s.bytes.items) × (0 < s.step) };
+    ghost invariant = { λ s. 0 < s.step };
 }
 
 impl MemorySource {
-    ghost use Rattle.gc_io.specs.Memory.{Supply};
+    ghost use Rattle.gc_io.specs.Supply.{Supply};
 
     /// A source of these bytes. A call gives at most `step` bytes, and the calls whose numbers, counted
     /// from 1, are listed fail.
@@ -45,12 +46,45 @@ impl MemorySource {
             ≡ record { rest = bytes.items; step = step; failing = failing.items; calls = 0; faults = 0 } }
     {
         MemorySource {
-            bytes,
-            at: 0,
+            held: Held::make(bytes),
             step,
             failing,
             calls: 0,
             faults: 0,
         }
+    }
+}
+
+impl Source for MemorySource {
+    ghost use Rattle.gc_io.specs.Supply.{next_answer, supply_after};
+
+    ghost rest = { λ s. Some s.rest };
+
+    ghost faults = { λ s. s.faults };
+
+    /// Gives up to `step` bytes, unless the call is listed.
+    fn take(&mut self, room: &mut [u8]) -> Taken
+        requires { 0 < length room.old }
+        ensures some { (count : ℕ) → result ≡ Bytes count → (0 < count) × (count ≤ length room.new) }
+        ensures given { (count : ℕ) → result ≡ Bytes count
+            → GivesUp (Some self.old.rest) (Some self.new.rest) (take count room.new) }
+        ensures end { result ≡ End → self.old.rest ≡ [] }
+        ensures end_stays { result ≡ End → self.new.rest ≡ self.old.rest }
+        ensures failed { result ≡ Failed → HasRisen self.old.faults self.new.faults }
+        ensures failed_stays { result ≡ Failed → self.new.rest ≡ self.old.rest }
+        ensures never_falls { self.old.faults ≤ self.new.faults }
+
+        ensures answer { result ≡ next_answer self.old (length room.old) }
+        ensures supply { self.new ≡ supply_after self.old result }
+    {
+        self.calls = self.calls.saturating_add(1);
+        if lists(&self.failing, self.calls) {
+            self.faults = self.faults.saturating_add(1);
+            return Taken::Failed;
+        }
+        if self.held.left().is_empty() {
+            return Taken::End;
+        }
+        Taken::Bytes(self.held.give(self.step, room))
     }
 }

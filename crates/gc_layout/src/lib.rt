@@ -8,6 +8,8 @@
 
 mod head;
 mod shape;
+#[cfg(test)]
+mod tests;
 mod types;
 
 pub use head::Head;
