@@ -1,2 +1,4 @@
 pub mod TextLemmas
 pub mod NumberLemmas
+pub mod TruncationLemmas
+pub mod ReadingLemmas

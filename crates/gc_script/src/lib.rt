@@ -10,8 +10,10 @@
 mod call_line;
 mod cut;
 mod fault;
+mod lines;
 mod names;
 mod preamble;
+mod read;
 mod script;
 mod words;
 

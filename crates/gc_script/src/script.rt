@@ -1,6 +1,7 @@
 ghost use Rattle.std.specs.Prelude.{◌≡◌, ◌+◌, ◌≤◌, ◌↔◌, length, slice_get, IsNone, IfSome};
 ghost use Rattle.gc_model.specs.Answer.{IsFit};
 
+use crate::lines::Lines;
 use crate::preamble::Preamble;
 use gc_layout::Types;
 use gc_model::Line;
@@ -14,7 +15,7 @@ const FIRST_LINE: u32 = 3;
 #[derive(Debug, Drop)]
 pub struct Script {
     preamble: Preamble,
-    lines: Vec<Line>,
+    lines: Lines,
 }
 
 impl Model for Script {
@@ -23,19 +24,19 @@ impl Model for Script {
 
     ghost Value = { Text };
 
-    ghost view = { λ s. record { preamble = s.preamble; lines = s.lines.items } };
+    ghost view = { λ s. record { preamble = s.preamble; lines = s.lines } };
 
-    ghost invariant = { λ s. (length s.lines.items ≤ 16777216) × All (IsFitLine s.preamble) s.lines.items };
+    ghost invariant = { λ s. (length s.lines ≤ 16777216) × All (IsFitLine s.preamble) s.lines };
 }
 
 impl Script {
     ghost use Rattle.std.specs.Prelude.{All};
     ghost use Rattle.gc_script.specs.Script.{IsFitLine, number_of_line};
 
-    pub(crate) fn new(preamble: Preamble, lines: Vec<Line>) -> Script
-        requires few { length lines.items ≤ 16777216 }
-        requires fit { All (IsFitLine preamble) lines.items }
-        ensures { result ≡ record { preamble = preamble; lines = lines.items } }
+    pub(crate) fn new(preamble: Preamble, lines: Lines) -> Script
+        requires few { length lines ≤ 16777216 }
+        requires fit { All (IsFitLine preamble) lines }
+        ensures { result ≡ record { preamble = preamble; lines = lines } }
     {
         Script { preamble, lines }
     }
@@ -68,7 +69,7 @@ impl Script {
         ensures none { IsNone result ↔ (length self.now.lines ≤ i) }
         ensures fit { IfSome result (IsFitLine self.now.preamble) }
     {
-        self.lines.get(i).copied()
+        self.lines.get(i)
     }
 
     /// The number in the text, from 1, of a call line counted from 0. None exactly where `i` isn't below

@@ -1,0 +1,79 @@
+-- A line is refused for the number of its words by its first seven.
+use Rattle.std.proofs.Common.{◌≡◌, ℕ, suc, ◌+◌, ◌<◌, ◌≤◌, List, [], ◌∷◌, length, take, Result, Ok, Err, Bool, true, false, cond, eqb, refl, ap, lit≤, arith}
+use Rattle.std.proofs.lemmas.Bool.Decides.{nat_tests}
+use Rattle.std.proofs.lemmas.List.{length-take}
+use Rattle.gc_model.specs.declared.call.Line.{Line}
+use Rattle.gc_script.specs.declared.call_line.CallWord.{CallWord}
+use Rattle.gc_script.specs.declared.call_line.CallWord.TheVariants.{New, Get, Put, Ask, Set, Swap, Same, Copy, Clear, Share, Take, Await, Safepoint, Block, Unblock, Collect}
+use Rattle.gc_script.specs.declared.fault.Cause.{Cause}
+use Rattle.gc_script.specs.declared.fault.Cause.TheVariants.{Word}
+use Rattle.gc_script.specs.Fault.{◌>>=◌}
+use Rattle.gc_script.specs.Grammar.{mutators_line, is_type_line, type_line, call_word, argument_count, counted_word, call_line}
+use Rattle.gc_script.specs.Script.{Preamble}
+
+pub mutators_line-take : (words : List (List ℕ)) → mutators_line (take 7 words) ≡ mutators_line words
+unfolding mutators_line
+mutators_line-take [] = refl
+mutators_line-take (a ∷ []) = refl
+mutators_line-take (a ∷ b ∷ []) = refl
+mutators_line-take (a ∷ b ∷ c ∷ words) = refl
+
+pub is_type_line-take : (words : List (List ℕ)) → is_type_line (take 7 words) ≡ is_type_line words
+is_type_line-take [] = refl
+is_type_line-take (a ∷ words) = refl
+
+pub type_line-take : (preamble : Preamble) (words : List (List ℕ)) → type_line preamble (take 7 words) ≡ type_line preamble words
+unfolding type_line
+type_line-take preamble [] = refl
+type_line-take preamble (a ∷ []) = refl
+type_line-take preamble (a ∷ b ∷ []) = refl
+type_line-take preamble (a ∷ b ∷ c ∷ []) = refl
+type_line-take preamble (a ∷ b ∷ c ∷ d ∷ []) = refl
+type_line-take preamble (a ∷ b ∷ c ∷ d ∷ e ∷ words) = refl
+
+-- no call word has more than four words behind it
+argument_count-le : (word : CallWord) → argument_count word ≤ 4
+unfolding argument_count
+argument_count-le New = lit≤ tt
+argument_count-le Get = lit≤ tt
+argument_count-le Put = lit≤ tt
+argument_count-le Ask = lit≤ tt
+argument_count-le Set = lit≤ tt
+argument_count-le Swap = lit≤ tt
+argument_count-le Same = lit≤ tt
+argument_count-le Copy = lit≤ tt
+argument_count-le Clear = lit≤ tt
+argument_count-le Share = lit≤ tt
+argument_count-le Take = lit≤ tt
+argument_count-le Await = lit≤ tt
+argument_count-le Safepoint = lit≤ tt
+argument_count-le Block = lit≤ tt
+argument_count-le Unblock = lit≤ tt
+argument_count-le Collect = lit≤ tt
+
+-- five words behind a call word are too many, whichever they are
+counted_word-many : (word : List ℕ) (a b c d e : List ℕ) (more : List (List ℕ)) → counted_word word (a ∷ b ∷ c ∷ d ∷ e ∷ more) ≡ (call_word word >>= λ kind. Err Word)
+unfolding counted_word
+counted_word-many word a b c d e more = go (call_word word) where
+  go : (read : Result CallWord Cause) → (read >>= λ kind. cond (eqb (length (a ∷ b ∷ c ∷ d ∷ e ∷ more)) (argument_count kind)) (Ok kind) (Err Word)) ≡ (read >>= λ kind. Err Word)
+  go (Ok kind) = let few = argument_count-le kind in grind (arith, nat_tests)
+  go (Err cause) = refl
+
+-- nothing is read where the call word is refused
+refused : (read : Result CallWord Cause) (f g : CallWord → Result Line Cause) → ((read >>= λ kind. Err Word) >>= f) ≡ ((read >>= λ kind. Err Word) >>= g)
+refused (Ok kind) f g = refl
+refused (Err cause) f g = refl
+
+pub call_line-take : (preamble : Preamble) (words : List (List ℕ)) → call_line preamble (take 7 words) ≡ call_line preamble words
+unfolding call_line
+call_line-take preamble [] = refl
+call_line-take preamble (t ∷ []) = refl
+call_line-take preamble (t ∷ word ∷ []) = refl
+call_line-take preamble (t ∷ word ∷ a ∷ []) = refl
+call_line-take preamble (t ∷ word ∷ a ∷ b ∷ []) = refl
+call_line-take preamble (t ∷ word ∷ a ∷ b ∷ c ∷ []) = refl
+call_line-take preamble (t ∷ word ∷ a ∷ b ∷ c ∷ d ∷ []) = refl
+call_line-take preamble (t ∷ word ∷ a ∷ b ∷ c ∷ d ∷ e ∷ more) =
+    rw (counted_word-many word a b c d e [], counted_word-many word a b c d e more) (refused (call_word word) _ _)
+
+pub ruleset truncated = (mutators_line-take, is_type_line-take, type_line-take, call_line-take)

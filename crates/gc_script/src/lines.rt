@@ -1,0 +1,52 @@
+ghost use Rattle.std.specs.Prelude.{◌≡◌, [], ◌∷◌, ◌++◌, length, slice_get, OnOk, OnErr};
+
+use gc_model::Line;
+use std::alloc::{AllocError, Global};
+use std::marker::Model;
+
+/// The call lines of a script, seen as their list.
+#[derive(Debug, Drop)]
+pub(crate) struct Lines {
+    lines: Vec<Line>,
+}
+
+impl Model for Lines {
+    ghost use Rattle.std.specs.Prelude.{List};
+    ghost use Rattle.gc_model.specs.declared.call.Line.{Line};
+
+    ghost Value = { List Line };
+
+    ghost view = { λ l. l.lines.items };
+}
+
+impl Lines {
+    pub(crate) fn new(alloc: Global) -> Lines
+        ensures { result ≡ [] }
+    {
+        Lines {
+            lines: Vec::new(alloc),
+        }
+    }
+
+    pub(crate) fn push(&mut self, line: Line) -> Result<(), AllocError>
+        ensures ok { OnOk result (self.new ≡ self.old ++ line ∷ []) }
+        ensures err { OnErr result (self.new ≡ self.old) }
+    {
+        // Taken apart, since the prover has to be shown the type of the call here.
+        let Line { mutator, call } = line;
+        self.lines.push(Line { mutator, call })?;
+        Ok(())
+    }
+
+    pub(crate) fn len(&self) -> usize
+        ensures { result ≡ length self.now }
+    {
+        self.lines.len()
+    }
+
+    pub(crate) fn get(&self, i: usize) -> Option<Line>
+        ensures { result ≡ slice_get self.now i }
+    {
+        self.lines.get(i).copied()
+    }
+}

@@ -1,0 +1,112 @@
+ghost use Rattle.std.specs.Prelude.{◌≡◌, ℕ, ◌+◌, ◌^◌, ◌<◌, ◌≤◌, ◌↔◌, [], ◌∷◌, ◌++◌, length, map, All, Err, Ok, IfOk, MatchResult, IsErrOf};
+ghost use Rattle.gc_model.specs.declared.call.Line.{Line};
+ghost use Rattle.gc_script.specs.Cut.{IsCutScript};
+ghost use Rattle.gc_script.specs.Fault.{Gives, Fails, at_line};
+ghost use Rattle.gc_script.specs.Grammar.{mutators_line, is_type_line, type_line, call_line, call_lines, body, after_version, script_of, script_of_lines, script_with_calls};
+ghost use Rattle.gc_script.specs.Script.{Script as Text, IsFitLine, first_preamble};
+ghost use Rattle.gc_script.specs.Text.{lines_of, words_of};
+
+use crate::call_line::call_line;
+use crate::cut::{split_line, split_words};
+use crate::fault::{Cause, Fault, ReadError, located};
+use crate::lines::Lines;
+use crate::preamble::Preamble;
+use crate::script::Script;
+use crate::words::number;
+use gc_model::Line;
+use std::alloc::Global;
+
+/// Line 2: `mutators M`, with M from 1 to 8.
+#[tactic(auto, unfolding(crate::specs::Grammar::mutators_line))]
+fn mutators_line(words: &[&[u8]]) -> Result<u8, Cause>
+    ensures { result ≡ mutators_line (map (λ word. word.now) words.now) }
+{
+    let [keyword, count] = words else {
+        return Err(Cause::Word);
+    };
+    if *keyword != b"mutators".as_slice() {
+        return Err(Cause::Word);
+    }
+    let mutators = number(count)?;
+    if 0 < mutators && mutators <= 8 {
+        Ok(mutators as u8)
+    } else {
+        Err(Cause::Mutator)
+    }
+}
+
+/// Whether the first word is `type`.
+fn is_type_line(words: &[&[u8]]) -> bool
+    ensures { result ≡ is_type_line (map (λ word. word.now) words.now) }
+{
+    match words {
+        [keyword, ..] => *keyword == b"type".as_slice(),
+        [] => false,
+    }
+}
+
+/// How many mutators line 2 declares.
+#[tactic(auto, using(crate::proofs::TruncationLemmas::truncated))]
+fn declared_mutators(line: &[u8]) -> Result<u8, Cause>
+    ensures { result ≡ mutators_line (words_of line.now) }
+{
+    let words = split_words(line);
+    mutators_line(words.as_slice())
+}
+
+/// A call line.
+#[tactic(auto, using(crate::proofs::TruncationLemmas::truncated))]
+fn read_call_line(preamble: &Preamble, line: &[u8]) -> Result<Line, Cause>
+    ensures line { result ≡ call_line preamble.now (words_of line.now) }
+    ensures fit { IfOk result (IsFitLine preamble.now) }
+{
+    let words = split_words(line);
+    call_line(preamble, words.as_slice())
+}
+
+/// Reads a call line, which has this number, behind the lines so far.
+fn push_line(
+    lines: &mut Lines,
+    preamble: &Preamble,
+    number: u32,
+    line: &[u8],
+) -> Result<(), ReadError<Fault>>
+    ensures { MatchResult result
+        (λ _. (read : Line) × (call_line preamble.now (words_of line.now) ≡ Ok read) × IsFitLine preamble.now read × (lines.new ≡ lines.old ++ read ∷ []))
+        (λ error. Fails error (at_line number (call_line preamble.now (words_of line.now)))) }
+{
+    match read_call_line(preamble, line) {
+        Ok(line) => {
+            lines.push(line)?;
+            Ok(())
+        }
+        Err(cause) => Err(ReadError::Refused(Fault {
+            line: number,
+            cause,
+        })),
+    }
+}
+
+/// The call lines, of which the first has this number.
+#[tactic(auto, unfolding(crate::specs::Grammar::call_lines))]
+fn call_lines(
+    alloc: Global,
+    preamble: &Preamble,
+    first: u32,
+    bytes: &[u8],
+) -> Result<Lines, ReadError<Fault>>
+    requires { first + length bytes.now < 2 ^ 32 }
+    ensures lines { Gives (λ lines. lines) result (call_lines preamble.now first (lines_of bytes.now)) }
+    ensures fit { IfOk result (λ lines. All (IsFitLine preamble.now) lines) }
+    ensures few { IfOk result (λ lines. length lines ≤ length bytes.now) }
+{
+    let mut lines = Lines::new(alloc);
+    let mut number = first;
+    let mut rest = bytes;
+    while let Some((line, behind)) = split_line(rest) {
+        push_line(&mut lines, preamble, number, line)?;
+        number += 1;
+        rest = behind;
+    }
+    Ok(lines)
+}
