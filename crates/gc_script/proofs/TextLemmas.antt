@@ -1,5 +1,5 @@
 -- Where the first line and the first word end.
-use Rattle.std.proofs.Common.{◌≡◌, ℕ, suc, ◌+◌, ◌<◌, ◌≤◌, List, [], ◌∷◌, length, take, drop, Bool, true, false, cond, eqb, refl, ap, sym, subst, ◌-◌, ◌++◌, map, append_assoc, ◌∙◌, arith}
+use Rattle.std.proofs.Common.{◌≡◌, ℕ, suc, ◌+◌, ◌<◌, ◌≤◌, List, [], ◌∷◌, length, take, drop, Bool, true, false, cond, eqb, refl, ap, sym, subst, ◌-◌, ◌++◌, map, append_assoc, arith}
 use Rattle.std.proofs.lemmas.List.{take_rest, map-append}
 use Rattle.std.proofs.Math.Numerals.{add-one}
 use Rattle.gc_script.specs.Text.{with_first, lines_of, words_of, bytes_before}

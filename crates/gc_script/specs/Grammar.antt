@@ -10,7 +10,7 @@ use Rattle.gc_model.specs.declared.call.Line.{Line}
 use Rattle.gc_script.specs.declared.call_line.CallWord.{CallWord}
 use Rattle.gc_script.specs.declared.call_line.CallWord.TheVariants.{New, Get, Put, Ask, Set, Swap, Same, Copy, Clear, Share, Take, Await, Safepoint, Block, Unblock, Collect}
 use Rattle.gc_script.specs.declared.fault.Cause.{Cause}
-use Rattle.gc_script.specs.declared.fault.Cause.TheVariants.{Version, Word, Number, «Type» as TypeCause, Mutator, Duplicate}
+use Rattle.gc_script.specs.declared.fault.Cause.TheVariants.{Version, Word, «Type» as TypeCause, Mutator, Duplicate}
 use Rattle.gc_script.specs.declared.fault.Fault.{Fault}
 use Rattle.gc_script.specs.Fault.{◌>>=◌, at_line}
 use Rattle.gc_script.specs.Script.{Preamble, Script, first_preamble}

@@ -1,5 +1,5 @@
 -- The kinds of words.
-use Rattle.std.specs.Prelude.{ℕ, ◌+◌, ◌^◌, List, [], ◌∷◌, length, Option, Some, None, Result, Ok, Err, Bool, true, false, not, ◌&&◌, ◌==◌, nat_lt, nat_le, if◌then◌else◌}
+use Rattle.std.specs.Prelude.{ℕ, ◌+◌, ◌^◌, List, [], ◌∷◌, length, Option, Some, None, Result, Ok, Err, Bool, false, not, ◌&&◌, ◌==◌, nat_lt, nat_le, if◌then◌else◌}
 use Rattle.std.specs.Char.{is_ascii_digit}
 use Rattle.std.specs.Int.{is_in_range}
 use Rattle.std.specs.Str.{all_ascii_digits, bytes_eq}
@@ -7,7 +7,7 @@ use Rattle.std.specs.List.{list_all}
 use Rattle.std.specs.Str.Parse.{digits_value}
 use Rattle.gc_layout.specs.declared.shape.TypeNo.{TypeNo}
 use Rattle.gc_script.specs.declared.fault.Cause.{Cause}
-use Rattle.gc_script.specs.declared.fault.Cause.TheVariants.{Number, Register, «Type» as TypeCause, Duplicate}
+use Rattle.gc_script.specs.declared.fault.Cause.TheVariants.{Number, Register, «Type» as TypeCause}
 
 -- `0`, or a digit 1 to 9 and then digits
 abbrev pub is_numeral : List ℕ → Bool

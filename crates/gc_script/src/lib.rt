@@ -9,13 +9,16 @@
 
 mod call_line;
 mod cut;
+mod cut_grammar;
 mod fault;
 mod lines;
 mod names;
 mod preamble;
 mod read;
+mod reader;
 mod script;
 mod words;
 
 pub use fault::ScriptFault;
+pub use reader::read_script;
 pub use script::Script;

@@ -1,8 +1,8 @@
 ghost use Rattle.std.specs.Prelude.{◌≡◌, ℕ, ◌+◌, ◌^◌, ◌<◌, ◌≤◌, ◌↔◌, [], ◌∷◌, ◌++◌, length, map, All, Err, Ok, IfOk, MatchResult, IsErrOf};
 ghost use Rattle.gc_model.specs.declared.call.Line.{Line};
-ghost use Rattle.gc_script.specs.Cut.{IsCutScript};
-ghost use Rattle.gc_script.specs.Fault.{Gives, Fails, at_line};
-ghost use Rattle.gc_script.specs.Grammar.{mutators_line, is_type_line, type_line, call_line, call_lines, body, after_version, script_of, script_of_lines, script_with_calls};
+ghost use Rattle.gc_script.specs.Fault.{Gives, Fails, at_line, located};
+ghost use Rattle.gc_script.specs.declared.fault.ReadError.TheVariants.{Refused};
+ghost use Rattle.gc_script.specs.Grammar.{mutators_line, is_type_line, type_line, call_line, call_lines, body, after_version, script_of, script_with_calls};
 ghost use Rattle.gc_script.specs.Script.{Script as Text, IsFitLine, first_preamble};
 ghost use Rattle.gc_script.specs.Text.{lines_of, words_of};
 
@@ -109,4 +109,109 @@ fn call_lines(
         rest = behind;
     }
     Ok(lines)
+}
+
+/// What is declared once a type line is read, which has this number.
+#[tactic(auto, using(crate::proofs::TruncationLemmas::truncated))]
+fn declare(
+    alloc: Global,
+    preamble: Preamble,
+    number: u32,
+    words: &[&[u8]],
+) -> Result<Preamble, ReadError<Fault>>
+    ensures { Gives (λ preamble. preamble) result (at_line number (type_line preamble (map (λ word. word.now) words.now))) }
+{
+    match preamble.with_type_line(alloc, words) {
+        Ok(preamble) => Ok(preamble),
+        Err(error) => Err(located(number, error)),
+    }
+}
+
+/// Where the call lines begin: what is declared before them, the number of the first, and the text from
+/// there on.
+struct CallLines<'a> {
+    preamble: Preamble,
+    first: u32,
+    text: &'a [u8],
+}
+
+/// Reads the type lines, of which the first has the number 3.
+#[tactic(auto, unfolding(crate::specs::Grammar::body), using(crate::proofs::TruncationLemmas::truncated))]
+fn type_lines(
+    alloc: Global,
+    declared: Preamble,
+    bytes: &[u8],
+) -> Result<CallLines<'_>, ReadError<Fault>>
+    requires { length bytes.now ≤ 16777216 }
+    ensures body { MatchResult result
+        (λ calls. script_with_calls calls.preamble calls.first (lines_of calls.text.now) ≡ body declared 3 (lines_of bytes.now))
+        (λ error. Fails error (body declared 3 (lines_of bytes.now))) }
+    ensures first { IfOk result (λ calls. calls.first + length calls.text.now ≤ 3 + length bytes.now) }
+    ensures rest { IfOk result (λ calls. length calls.text.now ≤ length bytes.now) }
+{
+    let mut preamble = declared;
+    let mut number: u32 = 3;
+    let mut rest = bytes;
+    while let Some((line, behind)) = split_line(rest) {
+        let words = split_words(line);
+        if !is_type_line(words.as_slice()) {
+            break;
+        }
+        preamble = declare(alloc, preamble, number, words.as_slice())?;
+        number += 1;
+        rest = behind;
+    }
+    Ok(CallLines {
+        preamble,
+        first: number,
+        text: rest,
+    })
+}
+
+/// The type lines and the call lines.
+fn body(alloc: Global, declared: Preamble, bytes: &[u8]) -> Result<Script, ReadError<Fault>>
+    requires { length bytes.now ≤ 16777216 }
+    ensures { Gives (λ script. script) result (body declared 3 (lines_of bytes.now)) }
+{
+    let CallLines {
+        preamble,
+        first,
+        text,
+    } = type_lines(alloc, declared, bytes)?;
+    let lines = call_lines(alloc, &preamble, first, text)?;
+    Ok(Script::new(preamble, lines))
+}
+
+/// What stands behind the version line.
+#[tactic(auto, unfolding(crate::specs::Grammar::after_version))]
+fn after_version(alloc: Global, bytes: &[u8]) -> Result<Script, ReadError<Fault>>
+    requires { length bytes.now ≤ 16777216 }
+    ensures { Gives (λ script. script) result (after_version (lines_of bytes.now)) }
+{
+    let Some((line, rest)) = split_line(bytes) else {
+        return Err(refused(2, Cause::Word));
+    };
+    match declared_mutators(line) {
+        Ok(mutators) => body(alloc, Preamble::make(alloc, mutators)?, rest),
+        Err(cause) => Err(refused(2, cause)),
+    }
+}
+
+/// The script that the text is, or its first fault.
+#[tactic(auto, unfolding(crate::specs::Grammar::script_of_lines))]
+pub(crate) fn script(alloc: Global, bytes: &[u8]) -> Result<Script, ReadError<Fault>>
+    requires { length bytes.now ≤ 16777216 }
+    ensures { Gives (λ script. script) result (script_of bytes.now) }
+{
+    match split_line(bytes) {
+        Some((version, rest)) if version == b"moar-gc 1".as_slice() => after_version(alloc, rest),
+        _ => Err(refused(1, Cause::Version)),
+    }
+}
+
+/// A failed test, at its line.
+fn refused(line: u32, cause: Cause) -> ReadError<Fault>
+    ensures { result ≡ located line (Refused cause) }
+{
+    ReadError::Refused(Fault { line, cause })
 }

@@ -1,4 +1,4 @@
-ghost use Rattle.std.specs.Prelude.{◌≡◌, ◌+◌, ◌≤◌, ◌↔◌, length, slice_get, IsNone, IfSome};
+ghost use Rattle.std.specs.Prelude.{◌≡◌, ◌+◌, ◌<◌, ◌≤◌, ◌↔◌, length, slice_get, IsNone, IfSome};
 ghost use Rattle.gc_model.specs.Answer.{IsFit};
 
 use crate::lines::Lines;
@@ -78,10 +78,25 @@ impl Script {
         ensures number { IfSome result (λ number. number ≡ number_of_line self.now i) }
         ensures none { IsNone result ↔ (length self.now.lines ≤ i) }
     {
-        if i >= self.lines.len() {
-            return None;
+        if i < self.lines.len() {
+            Some(self.number_of(i))
+        } else {
+            None
         }
+    }
+
+    /// The number in the text, from 1, of a call line counted from 0.
+    pub(crate) fn number_of(&self, i: usize) -> u32
+        requires { i < length self.now.lines }
+        ensures { result ≡ number_of_line self.now i }
+    {
         let declared = self.preamble.names().len();
-        Some(FIRST_LINE + declared as u32 + i as u32)
+        FIRST_LINE + declared as u32 + i as u32
+    }
+
+    pub(crate) fn lines(&self) -> &[Line]
+        ensures { result.now ≡ self.now.lines }
+    {
+        self.lines.as_slice()
     }
 }

@@ -1,4 +1,4 @@
-use Rattle.std.proofs.Common.{eqb, false, arith}
+use Rattle.std.proofs.Common.{arith}
 use Rattle.std.proofs.lemmas.Bool.Decides.{nat_tests}
 use Rattle.gc_script.proofs.TextLemmas.{lines_of-at, lines_of-only}
 use Rattle.gc_script.proofs.cut.split_line.Goals as goal

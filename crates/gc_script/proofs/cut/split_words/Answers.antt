@@ -1,8 +1,7 @@
-use Rattle.std.proofs.Common.{◌≡◌, ◌∷◌, ◌+◌, ◌-◌, ◌++◌, [], length, map, take, rules, arith, ap, ◌∙◌, subst, List, ℕ, Bor}
-use Rattle.std.proofs.lemmas.List.{length_push}
+use Rattle.std.proofs.Common.{◌≡◌, ◌∷◌, arith, List, ℕ, Bor}
 use Rattle.std.proofs.lemmas.Grind.{common_steps}
 use Rattle.std.specs.Option.{option_copied}
-use Rattle.gc_script.specs.Text.{words_of, words_behind}
+use Rattle.gc_script.specs.Text.{words_behind}
 use Rattle.gc_script.proofs.TextLemmas.{first_seven-more}
 use Rattle.gc_script.proofs.cut.split_words.Goals as goal
 
