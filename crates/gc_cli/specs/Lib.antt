@@ -1,0 +1,4 @@
+pub mod Command
+pub mod Heap
+pub mod Played
+pub mod Text

@@ -1,0 +1,51 @@
+ghost use Rattle.std.specs.Prelude.{◌≡◌, ◌≢◌, ◌≤◌, [], length, Ok};
+ghost use Rattle.gc_cli.specs.Command.{code_of, status_line, cause_text};
+
+/// How the program ended.
+#[derive(Clone, Copy, Debug, PartialEq, Eq)]
+pub enum Status {
+    /// The script was read to its end and all was written.
+    Done,
+    /// The words are no command.
+    Usage,
+    /// The first bad line, counted from 1, and the cause of its first failing test: 1 version, 2 word,
+    /// 3 number, 4 register, 5 type, 6 mutator, 7 duplicate.
+    Bad { line: u32, cause: u8 },
+    /// The script has more than 16,777,216 bytes.
+    Long,
+    /// The source had a fault.
+    ReadFault,
+    /// The sink had a fault.
+    WriteFault,
+    /// Want of memory.
+    NoMemory,
+}
+
+impl Status {
+    /// The exit status, 0 to 5.
+    pub fn code(&self) -> u8
+        ensures { result ≡ code_of self.now }
+    {
+        match self {
+            Status::Done => 0,
+            Status::Usage => 1,
+            Status::Bad { .. } | Status::Long => 2,
+            Status::ReadFault => 3,
+            Status::WriteFault => 4,
+            Status::NoMemory => 5,
+        }
+    }
+}
+
+/// The heap on which the lines were played, where it is handed back. So far it is never.
+#[derive(Clone, Copy, Debug, PartialEq, Eq)]
+pub enum Left {
+    Nothing,
+}
+
+/// How the program ended, and the heap on which the lines were played.
+#[derive(Clone, Copy, Debug, PartialEq, Eq)]
+pub struct Outcome {
+    pub status: Status,
+    pub left: Left,
+}
