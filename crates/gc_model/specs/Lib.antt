@@ -1,4 +1,5 @@
 pub mod Answer
+pub mod Examples
 pub mod Graph
 pub mod History
 pub mod Interim
