@@ -71,37 +71,37 @@ nil_leaves_the_register = refl
 -- what was put into a slot is got from it, also after the register was cleared
 pub what_was_put_is_got :
     replies_alone (New 0 pair ∷ New 1 box ∷ Set 1 0 7 ∷ Put 0 1 1 ∷ ClearReg 1 ∷ Get 2 0 1 ∷ Ask 2 0 ∷ Ask 1 0 ∷ [])
-        ≡ replicate 6 Done ++ Number 7 ∷ NilBase ∷ []
+    ≡ replicate 6 Done ++ Number 7 ∷ NilBase ∷ []
 what_was_put_is_got = refl
 
 -- a blocked mutator may only unblock or end, and only a blocked one may unblock
 pub blocked_mutators_are_refused :
     replies_alone (Block ∷ ClearReg 0 ∷ Block ∷ Ask 0 0 ∷ Unblock ∷ Unblock ∷ [])
-        ≡ Done ∷ Blocked ∷ Blocked ∷ Blocked ∷ Done ∷ NotBlocked ∷ []
+    ≡ Done ∷ Blocked ∷ Blocked ∷ Blocked ∷ Done ∷ NotBlocked ∷ []
 blocked_mutators_are_refused = refl
 
 -- an ended mutator is blocked, its registers are nothing, and it may end again
 pub an_ended_mutator_is_blocked :
     replies_alone (New 0 box ∷ End ∷ Ask 0 0 ∷ End ∷ Unblock ∷ Ask 0 0 ∷ [])
-        ≡ Done ∷ Done ∷ Blocked ∷ Done ∷ Done ∷ NilBase ∷ []
+    ≡ Done ∷ Done ∷ Blocked ∷ Done ∷ Done ∷ NilBase ∷ []
 an_ended_mutator_is_blocked = refl
 
 -- a number is swapped only where the expected one stands there
 pub only_the_expected_number_is_swapped :
     replies_alone (New 0 box ∷ SwapIf 0 0 5 6 ∷ SwapIf 0 0 0 6 ∷ Ask 0 0 ∷ Set 0 1 1 ∷ [])
-        ≡ Done ∷ Found 0 ∷ Yes ∷ Number 6 ∷ Range ∷ []
+    ≡ Done ∷ Found 0 ∷ Yes ∷ Number 6 ∷ Range ∷ []
 only_the_expected_number_is_swapped = refl
 
 -- a copied register is the same, another new object is not, and two empty registers are
 pub copies_are_the_same :
     replies_alone (New 0 pair ∷ CopyReg 1 0 ∷ New 2 pair ∷ Same 0 1 ∷ Same 0 2 ∷ Same 3 4 ∷ Same 0 3 ∷ [])
-        ≡ Done ∷ Done ∷ Done ∷ Yes ∷ No ∷ Yes ∷ No ∷ []
+    ≡ Done ∷ Done ∷ Done ∷ Yes ∷ No ∷ Yes ∷ No ∷ []
 copies_are_the_same = refl
 
 -- another mutator takes what was shared, in the place where it was shared
 pub a_shared_object_is_taken :
     replies_to (line_of 0 (New 0 box) ∷ line_of 0 (Set 0 0 9) ∷ line_of 0 (Share 3 0) ∷ line_of 1 (Take 0 3) ∷ line_of 1 (Ask 0 0) ∷ line_of 1 (Take 1 4) ∷ line_of 1 (Await 1 3) ∷ line_of 1 (Same 0 1) ∷ [])
-        ≡ Done ∷ Done ∷ Done ∷ Done ∷ Number 9 ∷ Nil ∷ Done ∷ Yes ∷ []
+    ≡ Done ∷ Done ∷ Done ∷ Done ∷ Number 9 ∷ Nil ∷ Done ∷ Yes ∷ []
 a_shared_object_is_taken = refl
 
 -- a half of 64 words holds twenty-one boxes of 3 words
@@ -161,5 +161,5 @@ a_collect_after_a_full_collection_is_legal = record {
   size = (lit≤ tt, (tt, (tt, tt)));
   full = (lit≤ tt, (tt, (tt, tt)));
   collect = (tt, (tt, (refl, tt)));
-  reports = (tt, (refl, (tt, tt)))
+  reports = (tt, (refl, (tt, tt)));
 }

@@ -3,6 +3,7 @@ pub mod Examples
 pub mod Graph
 pub mod History
 pub mod Interim
+pub mod Laws
 pub mod Plain
 pub mod Reach
 pub mod World

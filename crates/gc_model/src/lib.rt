@@ -9,6 +9,7 @@
 
 mod call;
 mod entry;
+mod laws;
 mod reg;
 mod reply;
 mod turns;
@@ -16,6 +17,7 @@ mod world;
 
 pub use call::{Call, Line};
 pub use entry::{Entry, RunKind, RunReport};
+pub use laws::no_object_is_taken_away;
 pub use reg::Reg;
 pub use reply::Reply;
 pub use turns::{CallTurn, Turns};
