@@ -12,6 +12,8 @@ mod entry;
 mod laws;
 mod reg;
 mod reply;
+#[cfg(test)]
+mod tests;
 mod turns;
 mod world;
 

@@ -197,6 +197,7 @@ impl World {
         requires fit { IsFit self.old.types (length self.old.world.mutators) t c.now }
         requires built { IsBuilt c.now }
         ensures types { self.new.types ≡ self.old.types }
+        ensures mutators { length self.new.world.mutators ≡ length self.old.world.mutators }
         ensures reply { IfOk result (λ reply. reply ≡ (answer self.old.types self.old.world t c.now room).reply) }
         ensures world { OnOk result (self.new.world ≡ (answer self.old.types self.old.world t c.now room).world) }
         ensures no_memory { OnErr result (self.new ≡ self.old) }
