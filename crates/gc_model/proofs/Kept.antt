@@ -12,7 +12,7 @@ use Rattle.gc_model.specs.Graph.{Object, common_object, object_at}
 use Rattle.gc_model.specs.World.{World, Mutator, with_mutator, with_register, with_object, with_slot, with_number, is_blocked}
 use Rattle.gc_model.specs.Answer.{Answer, at_base, within, loads, keeps, effect, answer, suits_blocked, wants_blocked}
 use Rattle.gc_model.specs.History.{is_done, world_after_entry}
-use Rattle.gc_model.specs.Laws.{Kind, kind_of, KeepsObjects}
+use Rattle.gc_model.specs.Laws.{kind_of, KeepsObjects}
 
 same : (world : World) → KeepsObjects world world
 same world = record { mutators = refl; objects = inl refl }

@@ -202,6 +202,7 @@ impl World {
         ensures world { OnOk result (self.new.world ≡ (answer self.old.types self.old.world t c.now room).world) }
         ensures no_memory { OnErr result (self.new ≡ self.old) }
         ensures only_new { OnErr result (IsNew c.now) }
+        ensures only_done { OnErr result ((answer self.old.types self.old.world t c.now room).reply ≡ Reply.Done) }
     {
         if self.mutators[usize::from(t)].blocked {
             return Ok(Reply::Blocked);
