@@ -1,13 +1,13 @@
 -- The graph's answer to a call: the effect, the reply, and the order of the refusals.
-use Rattle.std.specs.Prelude.{◌≡◌, ℕ, ◌<◌, List, length, replicate, Option, None, Some, slice_index, slice_index_or, Bool, true, false, not, ◌&&◌, ◌==◌, nat_lt, if◌then◌else◌}
+use Rattle.std.specs.Prelude.{ℕ, ◌<◌, List, length, replicate, Option, None, Some, slice_index, slice_index_or, Bool, true, false, not, ◌&&◌, ◌==◌, nat_lt, if◌then◌else◌}
 use Rattle.gc_layout.specs.declared.shape.Shape.{Shape}
 use Rattle.gc_layout.specs.Shape.{common_shape}
 use Rattle.gc_model.specs.declared.call.Call.{Call}
 use Rattle.gc_model.specs.declared.call.Call.TheVariants.{New, Get, Put, Ask, Set, SwapIf, Same, CopyReg, ClearReg, Share, Take, Await, Safepoint, Block, Unblock, Collect, End}
 use Rattle.gc_model.specs.declared.reply.Reply.{Reply}
 use Rattle.gc_model.specs.declared.reply.Reply.TheVariants.{Done, Full, Number, Yes, No, Found, Nil, NilBase, Range, Blocked, NotBlocked}
-use Rattle.gc_model.specs.Graph.{Object, fresh_object, object_at}
-use Rattle.gc_model.specs.World.{World, Mutator, named_by, is_blocked, with_mutator, with_register, with_blocked, with_object, with_slot, with_number}
+use Rattle.gc_model.specs.Graph.{fresh_object, object_at}
+use Rattle.gc_model.specs.World.{World, named_by, is_blocked, with_mutator, with_register, with_blocked, with_object, with_slot, with_number}
 
 -- a reply, and the world after the call
 pub record Answer : Type 0 where

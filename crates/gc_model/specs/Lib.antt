@@ -1,7 +1,9 @@
 pub mod Answer
+pub mod Examples
 pub mod Graph
 pub mod History
 pub mod Interim
+pub mod Laws
 pub mod Plain
 pub mod Reach
 pub mod World

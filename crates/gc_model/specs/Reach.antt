@@ -2,8 +2,8 @@
 use Rattle.std.specs.Prelude.{ℕ, zero, suc, List, length, Option, None, Some, sum_by, filter, Bool, false, ◌||◌, ◌&&◌, ◌==◌}
 use Rattle.std.specs.List.{list_any, enumerate_from}
 use Rattle.gc_model.specs.declared.world.Live.{Live}
-use Rattle.gc_model.specs.Graph.{Object, Graph, object_size, is_made_by}
-use Rattle.gc_model.specs.World.{World, Mutator}
+use Rattle.gc_model.specs.Graph.{Object, object_size, is_made_by}
+use Rattle.gc_model.specs.World.{World}
 
 -- whether a register or a slot names the object
 abbrev pub names : ℕ → Option ℕ → Bool

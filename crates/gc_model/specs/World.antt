@@ -1,6 +1,5 @@
 -- The world: the graph, and what the mutators keep.
-use Rattle.std.specs.Prelude.{ℕ, List, [], ◌∷◌, ◌++◌, length, replicate, Option, None, slice_index_or, slice_set, Bool, false}
-use Rattle.gc_layout.specs.declared.shape.Shape.{Shape}
+use Rattle.std.specs.Prelude.{ℕ, List, [], ◌∷◌, ◌++◌, replicate, Option, None, slice_index_or, slice_set, Bool, false}
 use Rattle.gc_model.specs.Graph.{Object, Graph, common_object, object_at}
 
 -- a mutator: what its 16 registers name, and whether it is blocked

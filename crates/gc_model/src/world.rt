@@ -197,10 +197,12 @@ impl World {
         requires fit { IsFit self.old.types (length self.old.world.mutators) t c.now }
         requires built { IsBuilt c.now }
         ensures types { self.new.types ≡ self.old.types }
+        ensures mutators { length self.new.world.mutators ≡ length self.old.world.mutators }
         ensures reply { IfOk result (λ reply. reply ≡ (answer self.old.types self.old.world t c.now room).reply) }
         ensures world { OnOk result (self.new.world ≡ (answer self.old.types self.old.world t c.now room).world) }
         ensures no_memory { OnErr result (self.new ≡ self.old) }
         ensures only_new { OnErr result (IsNew c.now) }
+        ensures only_done { OnErr result ((answer self.old.types self.old.world t c.now room).reply ≡ Reply.Done) }
     {
         if self.mutators[usize::from(t)].blocked {
             return Ok(Reply::Blocked);

@@ -1,0 +1,45 @@
+-- What every call and collection keeps.
+use Rattle.std.specs.Prelude.{◌≡◌, ℕ, ◌<◌, ◌⊎◌, ◌++◌, ◌∷◌, List, [], Option, length, map, All, IfSome}
+use Rattle.gc_layout.specs.declared.shape.Shape.{Shape}
+use Rattle.gc_model.specs.declared.entry.Entry.{Entry}
+use Rattle.gc_model.specs.Graph.{Object, Graph}
+use Rattle.gc_model.specs.World.{World}
+use Rattle.gc_model.specs.History.{Configuration, History, world_after, world_after_entry}
+
+-- what stays of an object: its type, its maker, and how many slots and numbers it has
+pub record Kind : Type 0 where
+  pub ty : ℕ
+  pub maker : Option ℕ
+  pub slots : ℕ
+  pub numbers : ℕ
+
+abbrev pub kind_of : Object → Kind
+kind_of object =
+    record { ty = object.ty; maker = object.maker; slots = length object.slots; numbers = length object.numbers }
+
+abbrev pub kinds_of : Graph → List Kind
+kinds_of graph = map kind_of graph
+
+-- a step keeps the mutators and the objects: there is at most one more object, at the end
+pub record KeepsObjects (old new : World) : Type 0 where
+  pub mutators : length new.mutators ≡ length old.mutators
+  pub objects : (kinds_of new.graph ≡ kinds_of old.graph)
+      ⊎ ((kind : Kind) × (kinds_of new.graph ≡ kinds_of old.graph ++ kind ∷ []))
+
+-- whatever the call, its mutator and its reply: no object is taken away or changes its kind
+abbrev pub NoObjectIsTakenAway : Type 0
+NoObjectIsTakenAway = (types : List Shape) (world : World) (entry : Entry) → KeepsObjects world (world_after_entry types world entry)
+
+-- each of these names one of so many objects, or nothing
+abbrev pub AreThere : ℕ → List (Option ℕ) → Type 0
+AreThere count names = All (λ name. IfSome name (λ number. number < count)) names
+
+-- the common object is there, each mutator has 16 registers, and registers and slots name objects that are there
+pub record IsSound (world : World) : Type 0 where
+  pub common : 0 < length world.graph
+  pub registers : All (λ mutator. (length mutator.registers ≡ 16) × AreThere (length world.graph) mutator.registers) world.mutators
+  pub slots : All (λ object. AreThere (length world.graph) object.slots) world.graph
+
+-- after every history each name is an object's
+abbrev pub EachNameIsAnObjects : Type 0
+EachNameIsAnObjects = (heap : Configuration) (history : History) → IsSound (world_after heap history)
