@@ -1,5 +1,6 @@
 -- What one call after another reads and writes.
 use Rattle.std.proofs.Common.{◌≡◌, ℕ, ◌<◌, ◌≤◌, List, [], ◌∷◌, ◌++◌, length, Option, Some, None, refl, sym, ap, ◌∙◌, append_assoc, inl, inr, ◌⊎◌, arith}
+use Rattle.std.proofs.lemmas.List.{append-nil}
 use Rattle.gc_io.specs.Faults.{HasRisen}
 use Rattle.gc_io.specs.Streams.{GivesUp, Appends, AppendsPrefix}
 
@@ -23,7 +24,7 @@ Appends-append (Some written) mid new xs ys first second =
 -- a sink that has got nothing has what it had
 pub Appends-none : (old : Option (List ℕ)) → Appends old old []
 Appends-none None = refl
-Appends-none (Some written) = ap Some (sym (append_nil written))
+Appends-none (Some written) = ap Some (sym (append-nil written))
 
 -- a count that rises after it did not fall has risen
 pub HasRisen-after : (old mid new : ℕ) → old ≤ mid → HasRisen mid new → HasRisen old new

@@ -11,6 +11,7 @@ mod command;
 mod input;
 mod opts;
 mod status;
+mod text;
 
 pub use command::Request;
 pub use opts::Opts;
