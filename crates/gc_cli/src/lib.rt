@@ -1,0 +1,10 @@
+//! The program: from the words of the command line and a script's bytes to the printed replies.
+//!
+//! `moar_gc` is the top call. It reads the words, reads the source to its end, reads the script, plays its
+//! lines on the heap and writes each reply. Its contract says what was played and printed where the status
+//! is Done, and for every other status its cause. The heap of this stage is private: words in a row, one
+//! place to allocate at, and nothing is collected. How its words show a world of the graph is a definition
+//! in specs/, and every call is proved to give the graph's reply and to show the graph's world afterwards.
+#![tactic(auto)]
+
+mod heap;
