@@ -7,6 +7,7 @@ use Rattle.gc_layout.specs.Head.{head_word}
 use Rattle.gc_model.specs.Answer.{shape_at}
 use Rattle.gc_model.specs.Graph.{Object, Graph, object_size, made_words}
 use Rattle.gc_model.specs.World.{World, mutator_at, named_by, is_blocked}
+use Rattle.gc_cli.specs.declared.heap.Heap.{Heap}
 
 -- the header of an object that no collection has seen
 abbrev pub fresh_head : ℕ → Head
@@ -40,3 +41,7 @@ pub record Shows (types : List Shape) (half : ℕ) (words : List ℕ) (used : �
   pub alone : length world.mutators ≡ 1
   pub sixteen : length (mutator_at world 0).registers ≡ 16
   pub able : is_blocked world 0 ≡ false
+
+-- the heap shows the world
+abbrev pub ShowsWorld : Heap → World → Type 0
+ShowsWorld heap world = Shows heap.types.now heap.half heap.words.items heap.used heap.registers world

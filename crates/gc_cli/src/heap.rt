@@ -1,9 +1,9 @@
-ghost use Rattle.std.specs.Prelude.{◌≡◌, ◌+◌, ◌<◌, ◌≤◌, length, true, vec_len, IfOk};
+ghost use Rattle.std.specs.Prelude.{◌≡◌, ◌+◌, ◌<◌, ◌≤◌, ◌^◌, ℕ, length, Some, true, vec_len, IfOk};
 ghost use Rattle.gc_model.specs.Answer.{effect, answer, Suits};
 ghost use Rattle.gc_model.specs.Interim.{IsBuilt, has_room, answer_to};
 ghost use Rattle.gc_model.specs.World.{World, first_world};
 ghost use Rattle.gc_model.specs.declared.call.Call.TheVariants.{New, Ask, Set};
-ghost use Rattle.gc_cli.specs.Heap.{Shows, fresh_head};
+ghost use Rattle.gc_cli.specs.Heap.{ShowsWorld, address_of, fresh_head};
 ghost use Rattle.gc_layout.specs.Head.{head_word};
 
 use gc_layout::{Head, NoMemory, Shape, TypeNo, Types};
@@ -31,7 +31,7 @@ impl<'a> Heap<'a> {
     /// The heap with the common object alone. A half has so many words.
     pub(crate) fn make(alloc: Global, types: &'a Types, half: u32) -> Result<Heap<'a>, NoMemory>
         ensures { IfOk result (λ heap. (heap.types ≡ types.entry) × (heap.half ≡ half)
-            × Shows types.now half heap.words.items heap.used heap.registers (first_world 1)) }
+            × ShowsWorld heap (first_world 1)) }
     {
         let half = half as usize;
         let Ok(mut words) = vec![in alloc; 0; 1 + COMMON_WORDS + half] else {
@@ -51,17 +51,16 @@ impl<'a> Heap<'a> {
     /// Makes a call of the mutator, which is a New, a Set or an Ask of a known type. Whatever world the heap
     /// shows, the reply is the graph's, and the heap shows the graph's world afterwards.
     pub(crate) fn call(&mut self, line: &Line) -> Reply
-        requires shown { (world : World) × Shows self.old.types.now self.old.half self.old.words.items self.old.used self.old.registers world }
+        requires shown { (world : World) × ShowsWorld self.old world }
         requires mutator { line.now.mutator ≡ 0 }
         requires built { IsBuilt line.now.call }
         requires known { Suits (length self.old.types.now) line.now.call }
         ensures types { self.new.types ≡ self.old.types }
         ensures half { self.new.half ≡ self.old.half }
-        ensures reply { (world : World) → Shows self.old.types.now self.old.half self.old.words.items self.old.used self.old.registers world
+        ensures reply { (world : World) → ShowsWorld self.old world
             → result ≡ (answer_to self.old.types.now self.old.half world line.now).reply }
-        ensures world { (world : World) → Shows self.old.types.now self.old.half self.old.words.items self.old.used self.old.registers world
-            → Shows self.old.types.now self.old.half self.new.words.items self.new.used self.new.registers
-                (answer_to self.old.types.now self.old.half world line.now).world }
+        ensures world { (world : World) → ShowsWorld self.old world
+            → ShowsWorld self.new (answer_to self.old.types.now self.old.half world line.now).world }
     {
         match line.call {
             Call::New { into, ty } => self.make_object(into, ty),
@@ -76,15 +75,14 @@ impl<'a> Heap<'a> {
     }
 
     fn make_object(&mut self, into: Reg, ty: TypeNo) -> Reply
-        requires shown { (world : World) × Shows self.old.types.now self.old.half self.old.words.items self.old.used self.old.registers world }
+        requires shown { (world : World) × ShowsWorld self.old world }
         requires known { ty.0 < length self.old.types.now }
         ensures types { self.new.types ≡ self.old.types }
         ensures half { self.new.half ≡ self.old.half }
-        ensures reply { (world : World) → Shows self.old.types.now self.old.half self.old.words.items self.old.used self.old.registers world
+        ensures reply { (world : World) → ShowsWorld self.old world
             → result ≡ (answer_to self.old.types.now self.old.half world (record { mutator = 0; call = New into ty })).reply }
-        ensures world { (world : World) → Shows self.old.types.now self.old.half self.old.words.items self.old.used self.old.registers world
-            → Shows self.old.types.now self.old.half self.new.words.items self.new.used self.new.registers
-                (answer_to self.old.types.now self.old.half world (record { mutator = 0; call = New into ty })).world }
+        ensures world { (world : World) → ShowsWorld self.old world
+            → ShowsWorld self.new (answer_to self.old.types.now self.old.half world (record { mutator = 0; call = New into ty })).world }
     {
         let size = self.types.shape(ty).unwrap().size() as usize;
         if self.used + size > COMMON_WORDS + self.half {
@@ -98,8 +96,8 @@ impl<'a> Heap<'a> {
     }
 
     fn ask(&self, base: Reg, place: u8) -> Reply
-        requires shown { (world : World) × Shows self.now.types.now self.now.half self.now.words.items self.now.used self.now.registers world }
-        ensures { (world : World) → Shows self.now.types.now self.now.half self.now.words.items self.now.used self.now.registers world
+        requires shown { (world : World) × ShowsWorld self.now world }
+        ensures { (world : World) → ShowsWorld self.now world
             → answer_to self.now.types.now self.now.half world (record { mutator = 0; call = Ask base place })
                 ≡ record { world = world; reply = result } }
     {
@@ -115,14 +113,13 @@ impl<'a> Heap<'a> {
     }
 
     fn set(&mut self, base: Reg, place: u8, number: u64) -> Reply
-        requires shown { (world : World) × Shows self.old.types.now self.old.half self.old.words.items self.old.used self.old.registers world }
+        requires shown { (world : World) × ShowsWorld self.old world }
         ensures types { self.new.types ≡ self.old.types }
         ensures half { self.new.half ≡ self.old.half }
-        ensures reply { (world : World) → Shows self.old.types.now self.old.half self.old.words.items self.old.used self.old.registers world
+        ensures reply { (world : World) → ShowsWorld self.old world
             → result ≡ (answer_to self.old.types.now self.old.half world (record { mutator = 0; call = Set base place number })).reply }
-        ensures world { (world : World) → Shows self.old.types.now self.old.half self.old.words.items self.old.used self.old.registers world
-            → Shows self.old.types.now self.old.half self.new.words.items self.new.used self.new.registers
-                (answer_to self.old.types.now self.old.half world (record { mutator = 0; call = Set base place number })).world }
+        ensures world { (world : World) → ShowsWorld self.old world
+            → ShowsWorld self.new (answer_to self.old.types.now self.old.half world (record { mutator = 0; call = Set base place number })).world }
     {
         let address = self.registers[usize::from(base.index())] as usize;
         if address == 0 {
@@ -139,7 +136,7 @@ impl<'a> Heap<'a> {
 
     /// The shape of the object whose header word has this address.
     fn shape_at(&self, address: usize) -> Shape
-        requires { (world : World) (object : ℕ) × Shows self.now.types.now self.now.half self.now.words.items self.now.used self.now.registers world
+        requires { (world : World) × (object : ℕ) × ShowsWorld self.now world
             × (object < length world.graph) × (address ≡ address_of world.graph (Some object)) }
     {
         let head = Head::of_word(self.words[address]).unwrap();
