@@ -1,6 +1,6 @@
 -- The words and the world that they show: what a read finds, and what a write and a new object leave.
 use Rattle.std.proofs.Common.{◌≡◌, ◌≢◌, ℕ, zero, suc, ◌+◌, ◌-◌, ◌*◌, ◌<◌, ◌≤◌, List, [], ◌∷◌, ◌++◌, length, take, drop, replicate, flat_map, sum_by, get_or, set, map, filter, Bool, true, false, cond, Option, Some, None, refl, sym, ap, subst, ◌∙◌, arith, append_assoc, length-append, add-one, zero-add, All, inl, inr, ⊎_elim}
-use Rattle.std.proofs.lemmas.List.{length-replicate, length-set, length_push, map-set, take-map, get_or-map, set-get_or, get_or-append-add, get_or-set_same, get_or-set_other, take_at, take-append-le}
+use Rattle.std.proofs.lemmas.List.{length-replicate, length-set, length_push, map-set, take-map, get_or-map, set-get_or, get_or-append-add, get_or-set_same, get_or-set_other, take_at, take-append-le, get_or_read}
 use Rattle.std.proofs.lemmas.List.Elements.{All-get_or, All-set, All-push, filter-append}
 use Rattle.std.proofs.lemmas.List.Sums.{sum_by-cons, sum_by_push, sum_by-append, sum-map, sum_by-set}
 use Rattle.std.proofs.lemmas.Bool.{cases_eq, leb-true, leb-false, le-leb, lt-leb}
@@ -12,7 +12,8 @@ use Rattle.gc_layout.specs.Head.{head_word}
 use Rattle.gc_model.specs.Answer.{shape_at}
 use Rattle.gc_model.specs.Graph.{Object, Graph, common_object, object_at, object_size, made_words, fresh_object, is_made_by}
 use Rattle.gc_model.specs.World.{World, Mutator, fresh_mutator, mutator_at, named_by, with_number, with_object, with_register}
-use Rattle.gc_cli.specs.Heap.{object_words, address_of, fresh_head, IsShaped, Shows}
+use Rattle.gc_cli.specs.declared.heap.Heap.{Heap}
+use Rattle.gc_cli.specs.Heap.{object_words, address_of, fresh_head, IsShaped, Shows, IsObjectAt}
 use Rattle.gc_cli.proofs.HeapLemmas.{set-append-add, objects_read, objects_write, objects_push}
 
 -- the words before an object's numbers
@@ -104,7 +105,8 @@ shows_number types half words used registers world number place v shown in_graph
       named = λ reg other is. rw (length-set world.graph number new) (shown.named reg other is);
       alone = shown.alone;
       sixteen = shown.sixteen;
-      able = shown.able
+      able = shown.able;
+      few = shown.few
     }
 
 -- what the registers name after one of them was set
@@ -166,5 +168,15 @@ shows_object types half words used registers world ty reg shown known fits in_re
       named = λ other number is. named_after world.graph new old.registers reg other number shown.sixteen in_registers (shown.named other) (sym (named_by-register (with_object world new) reg other (Some (length world.graph)) shown.alone) ∙ is);
       alone = length-set world.mutators 0 mutator ∙ shown.alone;
       sixteen = ap (λ m. length m.registers) there ∙ (length-set old.registers reg (Some (length world.graph)) ∙ shown.sixteen);
-      able = ap (λ m. m.blocked) there ∙ shown.able
+      able = ap (λ m. m.blocked) there ∙ shown.able;
+      few = shown.few
     }
+
+-- the word at an object's address is its type's header
+pub header_at : (heap : Heap) (address : ℕ) (world : World) (object : ℕ) → IsObjectAt heap address world object → (address < length heap.words.items) × ((object_at world.graph object).ty < length heap.types.now) × ((object_at world.graph object).ty < 256) × ((word : ℕ) → word ≡ get_or heap.words.items address word → head_word (fresh_head (object_at world.graph object).ty) ≡ word)
+header_at heap address world object at =
+    let read = header_read heap.types.now heap.half heap.words.items heap.used heap.registers world object at.shown at.in_graph in
+    let shaped : IsShaped heap.types.now (object_at world.graph object) = All-get_or (IsShaped heap.types.now) world.graph object common_object at.in_graph at.shown.shaped in
+    let within : address < length heap.words.items = omega (arith, read.0, at.found) in
+    (within, shaped.known, omega (arith, shaped.known, at.shown.few),
+    λ word reads. sym (get_or_read heap.words.items address word within reads 0 ∙ (ap (λ k. get_or heap.words.items k 0) at.found ∙ read.1)))

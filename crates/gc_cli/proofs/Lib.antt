@@ -1,2 +1,3 @@
 pub mod HeapLemmas
 pub mod HeapWorld
+pub mod HeapAnswers

@@ -1,9 +1,10 @@
 ghost use Rattle.std.specs.Prelude.{◌≡◌, ◌+◌, ◌<◌, ◌≤◌, ◌^◌, ℕ, length, Some, true, vec_len, IfOk};
-ghost use Rattle.gc_model.specs.Answer.{effect, answer, Suits};
-ghost use Rattle.gc_model.specs.Interim.{IsBuilt, has_room, answer_to};
+ghost use Rattle.gc_model.specs.Answer.{Suits, shape_at};
+ghost use Rattle.gc_model.specs.Graph.{object_at};
+ghost use Rattle.gc_model.specs.Interim.{IsBuilt, answer_to};
 ghost use Rattle.gc_model.specs.World.{World, first_world};
 ghost use Rattle.gc_model.specs.declared.call.Call.TheVariants.{New, Ask, Set};
-ghost use Rattle.gc_cli.specs.Heap.{ShowsWorld, address_of, fresh_head};
+ghost use Rattle.gc_cli.specs.Heap.{ShowsWorld, IsObjectAt, answer_of, fresh_head};
 ghost use Rattle.gc_layout.specs.Head.{head_word};
 
 use gc_layout::{Head, NoMemory, Shape, TypeNo, Types};
@@ -80,9 +81,9 @@ impl<'a> Heap<'a> {
         ensures types { self.new.types ≡ self.old.types }
         ensures half { self.new.half ≡ self.old.half }
         ensures reply { (world : World) → ShowsWorld self.old world
-            → result ≡ (answer_to self.old.types.now self.old.half world (record { mutator = 0; call = New into ty })).reply }
+            → result ≡ (answer_of self.old world (New into ty)).reply }
         ensures world { (world : World) → ShowsWorld self.old world
-            → ShowsWorld self.new (answer_to self.old.types.now self.old.half world (record { mutator = 0; call = New into ty })).world }
+            → ShowsWorld self.new (answer_of self.old world (New into ty)).world }
     {
         let size = self.types.shape(ty).unwrap().size() as usize;
         if self.used + size > COMMON_WORDS + self.half {
@@ -98,7 +99,7 @@ impl<'a> Heap<'a> {
     fn ask(&self, base: Reg, place: u8) -> Reply
         requires shown { (world : World) × ShowsWorld self.now world }
         ensures { (world : World) → ShowsWorld self.now world
-            → answer_to self.now.types.now self.now.half world (record { mutator = 0; call = Ask base place })
+            → answer_of self.now world (Ask base place)
                 ≡ record { world = world; reply = result } }
     {
         let address = self.registers[usize::from(base.index())] as usize;
@@ -117,9 +118,9 @@ impl<'a> Heap<'a> {
         ensures types { self.new.types ≡ self.old.types }
         ensures half { self.new.half ≡ self.old.half }
         ensures reply { (world : World) → ShowsWorld self.old world
-            → result ≡ (answer_to self.old.types.now self.old.half world (record { mutator = 0; call = Set base place number })).reply }
+            → result ≡ (answer_of self.old world (Set base place number)).reply }
         ensures world { (world : World) → ShowsWorld self.old world
-            → ShowsWorld self.new (answer_to self.old.types.now self.old.half world (record { mutator = 0; call = Set base place number })).world }
+            → ShowsWorld self.new (answer_of self.old world (Set base place number)).world }
     {
         let address = self.registers[usize::from(base.index())] as usize;
         if address == 0 {
@@ -136,8 +137,9 @@ impl<'a> Heap<'a> {
 
     /// The shape of the object whose header word has this address.
     fn shape_at(&self, address: usize) -> Shape
-        requires { (world : World) × (object : ℕ) × ShowsWorld self.now world
-            × (object < length world.graph) × (address ≡ address_of world.graph (Some object)) }
+        requires { (world : World) × (object : ℕ) × IsObjectAt self.now address world object }
+        ensures { (world : World) (object : ℕ) → IsObjectAt self.now address world object
+            → result ≡ shape_at self.now.types.now (object_at world.graph object).ty }
     {
         let head = Head::of_word(self.words[address]).unwrap();
         self.types.shape(head.ty).unwrap()
@@ -146,7 +148,7 @@ impl<'a> Heap<'a> {
 
 /// The address of a number field.
 fn number_address(address: usize, shape: Shape, place: u8) -> usize
-    requires { address < 2 ^ 32 }
+    requires { address < 2 ^ 63 }
     ensures { result ≡ address + (2 + shape.slots + place) }
 {
     address + 2 + usize::from(shape.slots) + usize::from(place)
