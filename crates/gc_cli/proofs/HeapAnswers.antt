@@ -10,7 +10,8 @@ use Rattle.gc_model.specs.Answer.{Answer, answer, effect, wants_blocked, shape_a
 use Rattle.gc_model.specs.Interim.{answer_to, has_room}
 use Rattle.gc_model.specs.Graph.{Graph, object_at, made_words, fresh_object}
 use Rattle.gc_model.specs.World.{World, named_by, is_blocked, with_number, with_object, with_register}
-use Rattle.gc_cli.specs.Heap.{address_of, Shows}
+use Rattle.gc_cli.specs.declared.heap.Heap.{Heap}
+use Rattle.gc_cli.specs.Heap.{address_of, Shows, ShowsWorld, IsObjectAt}
 
 -- a call of a mutator that is not blocked has its effect
 answer-able : (types : List Shape) (world : World) (call : Call) (room : Bool) → is_blocked world 0 ≡ false → wants_blocked call ≡ false → answer types world 0 call room ≡ effect types world 0 room call
@@ -21,10 +22,10 @@ named_object_of : (graph : Graph) (value : Option ℕ) (address : ℕ) → addre
 named_object_of graph None address held some = absurd (some held)
 named_object_of graph (Some number) address held some = (number, refl, held)
 
-pub named_object : (types : List Shape) (half : ℕ) (words : List ℕ) (used : ℕ) (registers : List ℕ) (world : World) (reg : ℕ) → Shows types half words used registers world → get_or registers reg 0 ≢ 0 → (number : ℕ) × (named_by world 0 reg ≡ Some number) × (get_or registers reg 0 ≡ address_of world.graph (Some number)) × (number < length world.graph)
-named_object types half words used registers world reg shown some =
-    let object = named_object_of world.graph (named_by world 0 reg) (get_or registers reg 0) (shown.held reg) some in
-    (object.0, object.1, object.2, shown.named reg object.0 object.1)
+pub named_object : (heap : Heap) (world : World) (reg : ℕ) → ShowsWorld heap world → get_or heap.registers reg 0 ≢ 0 → (number : ℕ) × (named_by world 0 reg ≡ Some number) × IsObjectAt heap (get_or heap.registers reg 0) world number
+named_object heap world reg shown some =
+    let object = named_object_of world.graph (named_by world 0 reg) (get_or heap.registers reg 0) (shown.held reg) some in
+    (object.0, object.1, record { shown = shown; in_graph = shown.named reg object.0 object.1; found = object.2 })
 
 -- an Ask and a Set are refused behind the last number
 pub asked_range : (types : List Shape) (half : ℕ) (world : World) (base place number : ℕ) → is_blocked world 0 ≡ false → named_by world 0 base ≡ Some number → length (object_at world.graph number).numbers ≤ place → answer_to types half world (record { mutator = 0; call = Ask base place }) ≡ keeps world Range

@@ -13,7 +13,7 @@ use Rattle.gc_model.specs.Answer.{shape_at}
 use Rattle.gc_model.specs.Graph.{Object, Graph, common_object, object_at, object_size, made_words, fresh_object, is_made_by}
 use Rattle.gc_model.specs.World.{World, Mutator, fresh_mutator, mutator_at, named_by, with_number, with_object, with_register}
 use Rattle.gc_cli.specs.declared.heap.Heap.{Heap}
-use Rattle.gc_cli.specs.Heap.{object_words, address_of, fresh_head, IsShaped, Shows, IsObjectAt}
+use Rattle.gc_cli.specs.Heap.{object_words, address_of, fresh_head, IsShaped, Shows, ShowsWorld, IsObjectAt}
 use Rattle.gc_cli.proofs.HeapLemmas.{set-append-add, objects_read, objects_write, objects_push}
 
 -- the words before an object's numbers
@@ -70,39 +70,49 @@ address_of-push graph object (Some number) named =
 pub address_of_last : (graph : Graph) (object : Object) → address_of (graph ++ object ∷ []) (Some (length graph)) ≡ 1 + sum_by object_size graph
 address_of_last graph object = rw (take_at graph (object ∷ []) (length graph) refl) refl
 
--- a header is read at its object's address
-pub header_read : (types : List Shape) (half : ℕ) (words : List ℕ) (used : ℕ) (registers : List ℕ) (world : World) (number : ℕ) → Shows types half words used registers world → number < length world.graph → (address_of world.graph (Some number) < length words) × (get_or words (address_of world.graph (Some number)) 0 ≡ head_word (fresh_head (object_at world.graph number).ty))
-header_read types half words used registers world number shown in_graph =
-    let read = objects_read world.graph number 0 words (replicate (18 + half - used) 0) shown.laid_out in_graph (omega arith) in
-    let at : address_of world.graph (Some number) ≡ address_of world.graph (Some number) + 0 = omega arith in
-    (omega (arith, read.0), ap (λ k. get_or words k 0) at ∙ read.1)
+-- the word at an object's address is its type's header
+pub header_at : (heap : Heap) (address : ℕ) (world : World) (object : ℕ) → IsObjectAt heap address world object → (address < length heap.words.items) × ((object_at world.graph object).ty < length heap.types.now) × ((object_at world.graph object).ty < 256) × ((word : ℕ) → word ≡ get_or heap.words.items address word → head_word (fresh_head (object_at world.graph object).ty) ≡ word)
+header_at heap address world object at =
+    let words = heap.words.items in
+    let read = objects_read world.graph object 0 words (replicate (18 + heap.half - heap.used) 0) at.shown.laid_out at.in_graph (omega arith) in
+    let shaped : IsShaped heap.types.now (object_at world.graph object) = All-get_or (IsShaped heap.types.now) world.graph object common_object at.in_graph at.shown.shaped in
+    let same : address ≡ address_of world.graph (Some object) + 0 = omega (arith, at.found) in
+    let within : address < length words = omega (arith, read.0) in
+    (within, shaped.known, omega (arith, shaped.known, at.shown.few),
+    λ word reads. sym (get_or_read words address word within reads 0 ∙ (ap (λ k. get_or words k 0) same ∙ read.1)))
 
--- a number is read behind the header, the forwarding word and the slots
-pub field_read : (types : List Shape) (half : ℕ) (words : List ℕ) (used : ℕ) (registers : List ℕ) (world : World) (number place : ℕ) → Shows types half words used registers world → number < length world.graph → place < (shape_at types (object_at world.graph number).ty).numbers → (address_of world.graph (Some number) + (2 + (shape_at types (object_at world.graph number).ty).slots + place) < length words) × (get_or words (address_of world.graph (Some number) + (2 + (shape_at types (object_at world.graph number).ty).slots + place)) 0 ≡ get_or (object_at world.graph number).numbers place 0)
-field_read types half words used registers world number place shown in_graph in_numbers =
-    let object = object_at world.graph number in
-    let shaped : IsShaped types object = All-get_or (IsShaped types) world.graph number common_object in_graph shown.shaped in
-    let read = objects_read world.graph number (2 + length object.slots + place) words (replicate (18 + half - used) 0) shown.laid_out in_graph (omega (arith, shaped.numbers)) in
-    rw (← shaped.slots) (read.0, read.1 ∙ number_read object place)
+-- a number stands behind the header, the forwarding word and the slots
+pub number_at : (heap : Heap) (address : ℕ) (world : World) (object place : ℕ) (shape : Shape) → IsObjectAt heap address world object → shape ≡ shape_at heap.types.now (object_at world.graph object).ty → place < shape.numbers → (place < length (object_at world.graph object).numbers) × (address + (2 + shape.slots + place) < length heap.words.items) × (get_or heap.words.items (address + (2 + shape.slots + place)) 0 ≡ get_or (object_at world.graph object).numbers place 0)
+number_at heap address world object place shape at shape_is in_numbers =
+    let words = heap.words.items in
+    let o = object_at world.graph object in
+    let shaped : IsShaped heap.types.now o = All-get_or (IsShaped heap.types.now) world.graph object common_object at.in_graph at.shown.shaped in
+    let numbers : length o.numbers ≡ shape.numbers = rw shape_is shaped.numbers in
+    let slots : length o.slots ≡ shape.slots = rw shape_is shaped.slots in
+    let read = objects_read world.graph object (2 + length o.slots + place) words (replicate (18 + heap.half - heap.used) 0) at.shown.laid_out at.in_graph (omega arith) in
+    rw (at.found, ← slots) (omega arith, read.0, read.1 ∙ number_read o place)
 
--- the words show the world after a write to a number
-pub shows_number : (types : List Shape) (half : ℕ) (words : List ℕ) (used : ℕ) (registers : List ℕ) (world : World) (number place v : ℕ) → Shows types half words used registers world → number < length world.graph → place < (shape_at types (object_at world.graph number).ty).numbers → Shows types half (set words (address_of world.graph (Some number) + (2 + (shape_at types (object_at world.graph number).ty).slots + place)) v) used registers (with_number world number place v)
-shows_number types half words used registers world number place v shown in_graph in_numbers =
-    let object = object_at world.graph number in
-    let shaped : IsShaped types object = All-get_or (IsShaped types) world.graph number common_object in_graph shown.shaped in
-    let new : Object = record object { numbers = set object.numbers place v } in
-    let size : object_size new ≡ object_size object = omega (arith, length-set object.numbers place v) in
-    let write = objects_write world.graph number (2 + length object.slots + place) v new words (replicate (18 + half - used) 0) shown.laid_out in_graph (omega (arith, shaped.numbers)) (number_write object place v) in
-    let total : sum_by object_size (set world.graph number new) ≡ sum_by object_size world.graph = omega (arith, sum_by-set object_size world.graph number new common_object in_graph) in
-    let made : made_words (set world.graph number new) 0 ≡ made_words world.graph 0 = sum_by-filter-set object_size (is_made_by 0) world.graph number new common_object size refl in
+-- the heap shows the world after a write to a number
+pub shows_number : (heap : Heap) (address : ℕ) (world : World) (object place : ℕ) (shape : Shape) (v : ℕ) → IsObjectAt heap address world object → shape ≡ shape_at heap.types.now (object_at world.graph object).ty → place < shape.numbers → Shows heap.types.now heap.half (set heap.words.items (address + (2 + shape.slots + place)) v) heap.used heap.registers (with_number world object place v)
+shows_number heap address world object place shape v at shape_is in_numbers =
+    let shown = at.shown in
+    let old = object_at world.graph object in
+    let shaped : IsShaped heap.types.now old = All-get_or (IsShaped heap.types.now) world.graph object common_object at.in_graph shown.shaped in
+    let numbers : length old.numbers ≡ shape.numbers = rw shape_is shaped.numbers in
+    let slots : length old.slots ≡ shape.slots = rw shape_is shaped.slots in
+    let new : Object = record old { numbers = set old.numbers place v } in
+    let size : object_size new ≡ object_size old = omega (arith, length-set old.numbers place v) in
+    let write = objects_write world.graph object (2 + length old.slots + place) v new heap.words.items (replicate (18 + heap.half - heap.used) 0) shown.laid_out at.in_graph (omega arith) (number_write old place v) in
+    let total : sum_by object_size (set world.graph object new) ≡ sum_by object_size world.graph = omega (arith, sum_by-set object_size world.graph object new common_object at.in_graph) in
+    let made : made_words (set world.graph object new) 0 ≡ made_words world.graph 0 = sum_by-filter-set object_size (is_made_by 0) world.graph object new common_object size refl in
     record {
-      laid_out = rw (← shaped.slots) write;
+      laid_out = rw (at.found, ← slots) write;
       counted = shown.counted ∙ sym total;
       made = rw made shown.made;
       within = shown.within;
-      shaped = All-set (IsShaped types) world.graph number new (record { known = shaped.known; slots = shaped.slots; numbers = length-set object.numbers place v ∙ shaped.numbers }) shown.shaped;
-      held = λ reg. shown.held reg ∙ sym (address_of-set world.graph number new (named_by world 0 reg) in_graph size);
-      named = λ reg other is. rw (length-set world.graph number new) (shown.named reg other is);
+      shaped = All-set (IsShaped heap.types.now) world.graph object new (record { known = shaped.known; slots = shaped.slots; numbers = length-set old.numbers place v ∙ shaped.numbers }) shown.shaped;
+      held = λ reg. shown.held reg ∙ sym (address_of-set world.graph object new (named_by world 0 reg) at.in_graph size);
+      named = λ reg other is. rw (length-set world.graph object new) (shown.named reg other is);
       alone = shown.alone;
       sixteen = shown.sixteen;
       able = shown.able;
@@ -146,10 +156,12 @@ named_after graph object names reg other number names_long in_registers named is
         let before = named number (sym (get_or-set_other names reg other (Some (length graph)) None differs) ∙ is) in
         rw (length_push graph object) (omega arith) ]
 
--- the words show the world after a new object
-pub shows_object : (types : List Shape) (half : ℕ) (words : List ℕ) (used : ℕ) (registers : List ℕ) (world : World) (ty reg : ℕ) → Shows types half words used registers world → ty < length types → used + size_of (shape_at types ty) ≤ 18 + half → reg < 16 → length registers ≡ 16 → Shows types half (set words (1 + used) (head_word (fresh_head ty))) (used + size_of (shape_at types ty)) (set registers reg (1 + used)) (with_register (with_object world (fresh_object ty (Some 0) (shape_at types ty))) 0 reg (Some (length world.graph)))
-shows_object types half words used registers world ty reg shown known fits in_registers sixteen =
-    let shape = shape_at types ty in
+-- the heap shows the world after a new object
+pub shows_object : (heap : Heap) (world : World) (ty reg : ℕ) (shape : Shape) → ShowsWorld heap world → ty < length heap.types.now → shape ≡ shape_at heap.types.now ty → heap.used + size_of shape ≤ 18 + heap.half → reg < 16 → length heap.registers ≡ 16 → Shows heap.types.now heap.half (set heap.words.items (1 + heap.used) (head_word (fresh_head ty))) (heap.used + size_of shape) (set heap.registers reg (1 + heap.used)) (with_register (with_object world (fresh_object ty (Some 0) shape)) 0 reg (Some (length world.graph)))
+shows_object heap world ty reg shape shown known shape_is fits in_registers sixteen =
+    let used = heap.used in
+    let half = heap.half in
+    let types = heap.types.now in
     let new = fresh_object ty (Some 0) shape in
     let graph : Graph = world.graph ++ new ∷ [] in
     let old : Mutator = mutator_at world 0 in
@@ -157,26 +169,17 @@ shows_object types half words used registers world ty reg shown known fits in_re
     let size : object_size new ≡ size_of shape = simp length-replicate (omega arith) in
     let there : mutator_at (with_register (with_object world new) 0 reg (Some (length world.graph))) 0 ≡ mutator = get_or-set_same world.mutators 0 mutator fresh_mutator (omega (arith, shown.alone)) in
     let room : 18 + half - used - size_of shape ≡ 18 + half - (used + size_of shape) = omega arith in
-    let push = objects_push world.graph ty used (18 + half - used) (Some 0) shape words shown.laid_out shown.counted (omega arith) in
+    let push = objects_push world.graph ty used (18 + half - used) (Some 0) shape heap.words.items shown.laid_out shown.counted (omega arith) in
     record {
       laid_out = rw (← room) push;
       counted = rw (sum_by_push object_size world.graph new, size) (omega (arith, shown.counted));
       made = rw (made_words-push world.graph ty shape) (omega (arith, shown.made));
       within = fits;
-      shaped = All-push (IsShaped types) world.graph new shown.shaped (record { known = known; slots = length-replicate shape.slots None; numbers = length-replicate shape.numbers 0 });
-      held = λ other. held_after world.graph new registers old.registers reg other used sixteen shown.sixteen in_registers shown.counted (shown.held other) (shown.named other) ∙ ap (address_of graph) (sym (named_by-register (with_object world new) reg other (Some (length world.graph)) shown.alone));
+      shaped = All-push (IsShaped types) world.graph new shown.shaped (record { known = known; slots = length-replicate shape.slots None ∙ ap (λ s. s.slots) shape_is; numbers = length-replicate shape.numbers 0 ∙ ap (λ s. s.numbers) shape_is });
+      held = λ other. held_after world.graph new heap.registers old.registers reg other used sixteen shown.sixteen in_registers shown.counted (shown.held other) (shown.named other) ∙ ap (address_of graph) (sym (named_by-register (with_object world new) reg other (Some (length world.graph)) shown.alone));
       named = λ other number is. named_after world.graph new old.registers reg other number shown.sixteen in_registers (shown.named other) (sym (named_by-register (with_object world new) reg other (Some (length world.graph)) shown.alone) ∙ is);
       alone = length-set world.mutators 0 mutator ∙ shown.alone;
       sixteen = ap (λ m. length m.registers) there ∙ (length-set old.registers reg (Some (length world.graph)) ∙ shown.sixteen);
       able = ap (λ m. m.blocked) there ∙ shown.able;
       few = shown.few
     }
-
--- the word at an object's address is its type's header
-pub header_at : (heap : Heap) (address : ℕ) (world : World) (object : ℕ) → IsObjectAt heap address world object → (address < length heap.words.items) × ((object_at world.graph object).ty < length heap.types.now) × ((object_at world.graph object).ty < 256) × ((word : ℕ) → word ≡ get_or heap.words.items address word → head_word (fresh_head (object_at world.graph object).ty) ≡ word)
-header_at heap address world object at =
-    let read = header_read heap.types.now heap.half heap.words.items heap.used heap.registers world object at.shown at.in_graph in
-    let shaped : IsShaped heap.types.now (object_at world.graph object) = All-get_or (IsShaped heap.types.now) world.graph object common_object at.in_graph at.shown.shaped in
-    let within : address < length heap.words.items = omega (arith, read.0, at.found) in
-    (within, shaped.known, omega (arith, shaped.known, at.shown.few),
-    λ word reads. sym (get_or_read heap.words.items address word within reads 0 ∙ (ap (λ k. get_or heap.words.items k 0) at.found ∙ read.1)))
