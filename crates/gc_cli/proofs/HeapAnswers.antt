@@ -1,8 +1,9 @@
 -- What the graph answers to a New, an Ask or a Set in a world that the words show.
-use Rattle.std.proofs.Common.{◌≡◌, ◌≢◌, ℕ, zero, suc, ◌+◌, ◌-◌, ◌<◌, ◌≤◌, List, length, get_or, Bool, true, false, Option, Some, None, refl, sym, ap, ◌∙◌, arith}
+use Rattle.std.proofs.Common.{◌≡◌, ◌≢◌, ℕ, zero, suc, ◌+◌, ◌-◌, ◌<◌, ◌≤◌, List, length, get_or, set, Bool, true, false, Option, Some, None, refl, sym, ap, subst, ◌∙◌, arith}
 use Rattle.std.proofs.lemmas.Bool.{le-leb, lt-leb, lt-ltb, le-ltb}
 use Rattle.gc_layout.specs.declared.shape.Shape.{Shape}
 use Rattle.gc_layout.specs.Shape.{size_of}
+use Rattle.gc_layout.specs.Head.{head_word}
 use Rattle.gc_model.specs.declared.call.Call.{Call}
 use Rattle.gc_model.specs.declared.call.Call.TheVariants.{New, Ask, Set}
 use Rattle.gc_model.specs.declared.reply.Reply.TheVariants.{Full, Range, Number}
@@ -11,7 +12,8 @@ use Rattle.gc_model.specs.Interim.{answer_to, has_room}
 use Rattle.gc_model.specs.Graph.{Graph, object_at, made_words, fresh_object}
 use Rattle.gc_model.specs.World.{World, named_by, is_blocked, with_number, with_object, with_register}
 use Rattle.gc_cli.specs.declared.heap.Heap.{Heap}
-use Rattle.gc_cli.specs.Heap.{address_of, Shows, ShowsWorld, IsObjectAt}
+use Rattle.gc_cli.specs.Heap.{address_of, Shows, ShowsWorld, IsObjectAt, fresh_head, answer_of}
+use Rattle.gc_cli.proofs.HeapWorld.{shows_object}
 
 -- a call of a mutator that is not blocked has its effect
 answer-able : (types : List Shape) (world : World) (call : Call) (room : Bool) → is_blocked world 0 ≡ false → wants_blocked call ≡ false → answer types world 0 call room ≡ effect types world 0 room call
@@ -53,3 +55,13 @@ new_full types half world into ty able more =
 pub new_done : (types : List Shape) (half : ℕ) (world : World) (into ty : ℕ) → is_blocked world 0 ≡ false → made_words world.graph 0 + size_of (shape_at types ty) ≤ half → answer_to types half world (record { mutator = 0; call = New into (record { 0 = ty }) }) ≡ does (with_register (with_object world (fresh_object ty (Some 0) (shape_at types ty))) 0 into (Some (length world.graph)))
 new_done types half world into ty able fits =
     answer-able types world (New into (record { 0 = ty })) (has_room types half world 0 (New into (record { 0 = ty }))) able refl ∙ rw (le-leb (made_words world.graph 0 + size_of (shape_at types ty)) half fits) refl
+
+-- the heap shows the graph's world after a New for which there is room
+pub shows_new : (heap : Heap) (world : World) (into ty reg header size : ℕ) (shape : Shape) → ShowsWorld heap world → ty < length heap.types.now → shape ≡ shape_at heap.types.now ty → header ≡ head_word (fresh_head ty) → size ≡ size_of shape → reg ≡ into → heap.used + size ≤ 18 + heap.half → reg < 16 → length heap.registers ≡ 16 → Shows heap.types.now heap.half (set heap.words.items (1 + heap.used) header) (heap.used + size) (set heap.registers reg (1 + heap.used)) (answer_of heap world (New into (record { 0 = ty }))).world
+shows_new heap world into ty reg header size shape shown known shape_is header_is size_is reg_is fits in_registers sixteen =
+    let room : made_words world.graph 0 + size_of (shape_at heap.types.now ty) ≤ heap.half = rw (← shape_is, ← size_is) (omega (arith, shown.made)) in
+    let done = new_done heap.types.now heap.half world into ty shown.able room in
+    let Left : World → Type 0 = λ w. Shows heap.types.now heap.half (set heap.words.items (1 + heap.used) header) (heap.used + size) (set heap.registers reg (1 + heap.used)) w in
+    let Made : Shape → Type 0 = λ s. Left (with_register (with_object world (fresh_object ty (Some 0) s)) 0 into (Some (length world.graph))) in
+    let after : Made shape = rw (header_is, size_is, ← reg_is) (shows_object heap world ty reg shape shown known shape_is (rw (← size_is) fits) in_registers sixteen) in
+    subst Left (sym (ap (λ answer. answer.world) done)) (subst Made shape_is after)

@@ -14,7 +14,7 @@ use Rattle.gc_model.specs.Graph.{Object, Graph, common_object, object_at, object
 use Rattle.gc_model.specs.World.{World, Mutator, fresh_mutator, mutator_at, named_by, with_number, with_object, with_register}
 use Rattle.gc_cli.specs.declared.heap.Heap.{Heap}
 use Rattle.gc_cli.specs.Heap.{object_words, address_of, fresh_head, IsShaped, Shows, ShowsWorld, IsObjectAt}
-use Rattle.gc_cli.proofs.HeapLemmas.{set-append-add, objects_read, objects_write, objects_push}
+use Rattle.gc_cli.proofs.HeapLemmas.{set-append-add, length-objects, objects_read, objects_write, objects_push}
 
 -- the words before an object's numbers
 length_front : (head slots : ℕ) → length (head ∷ 0 ∷ replicate slots 0) ≡ 2 + slots
@@ -69,6 +69,13 @@ address_of-push graph object (Some number) named =
 -- the address of the object behind all others
 pub address_of_last : (graph : Graph) (object : Object) → address_of (graph ++ object ∷ []) (Some (length graph)) ≡ 1 + sum_by object_size graph
 address_of_last graph object = rw (take_at graph (object ∷ []) (length graph) refl) refl
+
+-- the heap has a word that is never used, the common object's words and a half
+pub length_words : (heap : Heap) (world : World) → ShowsWorld heap world → length heap.words.items ≡ 19 + heap.half
+length_words heap world shown =
+    let all = flat_map object_words world.graph in
+    let rest : ℕ = 18 + heap.half - heap.used in
+    ap length shown.laid_out ∙ simp (length-append, length-replicate) (omega (arith, shown.counted, shown.within, length-objects world.graph))
 
 -- the word at an object's address is its type's header
 pub header_at : (heap : Heap) (address : ℕ) (world : World) (object : ℕ) → IsObjectAt heap address world object → (address < length heap.words.items) × ((object_at world.graph object).ty < length heap.types.now) × ((object_at world.graph object).ty < 256) × ((word : ℕ) → word ≡ get_or heap.words.items address word → head_word (fresh_head (object_at world.graph object).ty) ≡ word)
