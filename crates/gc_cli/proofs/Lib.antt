@@ -1,3 +1,4 @@
 pub mod HeapLemmas
 pub mod HeapWorld
 pub mod HeapAnswers
+pub mod HeapFirst
