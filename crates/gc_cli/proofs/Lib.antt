@@ -1,2 +1,5 @@
 pub mod HeapLemmas
+pub mod HeapWorld
+pub mod HeapAnswers
+pub mod HeapFirst
 pub mod StreamLemmas

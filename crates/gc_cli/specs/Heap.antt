@@ -4,9 +4,12 @@ use Rattle.std.specs.Prelude.{◌≡◌, ℕ, ◌+◌, ◌-◌, ◌<◌, ◌≤�
 use Rattle.gc_layout.specs.declared.head.Head.{Head}
 use Rattle.gc_layout.specs.declared.shape.Shape.{Shape}
 use Rattle.gc_layout.specs.Head.{head_word}
-use Rattle.gc_model.specs.Answer.{shape_at}
+use Rattle.gc_model.specs.declared.call.Call.{Call}
+use Rattle.gc_model.specs.Answer.{Answer, shape_at}
 use Rattle.gc_model.specs.Graph.{Object, Graph, object_size, made_words}
+use Rattle.gc_model.specs.Interim.{answer_to}
 use Rattle.gc_model.specs.World.{World, mutator_at, named_by, is_blocked}
+use Rattle.gc_cli.specs.declared.heap.Heap.{Heap}
 
 -- the header of an object that no collection has seen
 abbrev pub fresh_head : ℕ → Head
@@ -40,3 +43,18 @@ pub record Shows (types : List Shape) (half : ℕ) (words : List ℕ) (used : �
   pub alone : length world.mutators ≡ 1
   pub sixteen : length (mutator_at world 0).registers ≡ 16
   pub able : is_blocked world 0 ≡ false
+  pub few : length types ≤ 256
+
+-- the heap shows the world
+abbrev pub ShowsWorld : Heap → World → Type 0
+ShowsWorld heap world = Shows heap.types.now heap.half heap.words.items heap.used heap.registers world
+
+-- the graph's answer to a call of the only mutator
+abbrev pub answer_of : Heap → World → Call → Answer
+answer_of heap world call = answer_to heap.types.now heap.half world (record { mutator = 0; call = call })
+
+-- in a world that the heap shows, the object's header has this address
+pub record IsObjectAt (heap : Heap) (address : ℕ) (world : World) (object : ℕ) : Type 0 where
+  pub shown : ShowsWorld heap world
+  pub in_graph : object < length world.graph
+  pub found : address ≡ address_of world.graph (Some object)

@@ -8,6 +8,7 @@
 #![tactic(auto)]
 
 mod command;
+mod heap;
 mod input;
 mod opts;
 mod status;
