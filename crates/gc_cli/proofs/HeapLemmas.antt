@@ -46,10 +46,11 @@ objects_read graph number j words rest laid_out in_graph in_object =
     let part : before + j < length all = omega (arith, sum_by_more_le object_size graph number common_object in_graph, length-objects graph) in
     let long : length words ≡ 1 + length all + length rest = ap length laid_out ∙ simp length-append (omega arith) in
     let place : 1 + before + j ≡ suc (before + j) = omega arith in
-    let in_words : j < length (object_words (object_at graph number)) = rw (length-object_words (object_at graph number)) in_object in
-    (omega arith,
-    rw (laid_out, place, get_or_append_left all rest 0 (before + j) part, ← length-objects (take number graph))
-    (get_or-flat_map object_words graph number j common_object 0 in_graph in_words))
+    let in_words : j < length (object_words (object_at graph number)) = rw (length-object_words (object_at graph number)) in_object in (
+      omega arith,
+      rw (laid_out, place, get_or_append_left all rest 0 (before + j) part, ← length-objects (take number graph))
+          (get_or-flat_map object_words graph number j common_object 0 in_graph in_words),
+    )
 
 -- a write to a word of an object writes the object
 pub objects_write : (graph : Graph) (number j v : ℕ) (object : Object) (words rest : List ℕ) → words ≡ 0 ∷ flat_map object_words graph ++ rest → number < length graph → j < object_size (object_at graph number) → object_words object ≡ set (object_words (object_at graph number)) j v → set words (address_of graph (Some number) + j) v ≡ 0 ∷ flat_map object_words (set graph number object) ++ rest

@@ -84,9 +84,12 @@ header_at heap address world object at =
     let read = objects_read world.graph object 0 words (replicate (18 + heap.half - heap.used) 0) at.shown.laid_out at.in_graph (omega arith) in
     let shaped : IsShaped heap.types.now (object_at world.graph object) = All-get_or (IsShaped heap.types.now) world.graph object common_object at.in_graph at.shown.shaped in
     let same : address ≡ address_of world.graph (Some object) + 0 = omega (arith, at.found) in
-    let within : address < length words = omega (arith, read.0) in
-    (within, shaped.known, omega (arith, shaped.known, at.shown.few),
-    λ word reads. sym (get_or_read words address word within reads 0 ∙ (ap (λ k. get_or words k 0) same ∙ read.1)))
+    let within : address < length words = omega (arith, read.0) in (
+      within,
+      shaped.known,
+      omega (arith, shaped.known, at.shown.few),
+      λ word reads. sym (get_or_read words address word within reads 0 ∙ (ap (λ k. get_or words k 0) same ∙ read.1)),
+    )
 
 -- a number stands behind the header, the forwarding word and the slots
 pub number_at : (heap : Heap) (address : ℕ) (world : World) (object place : ℕ) (shape : Shape) → IsObjectAt heap address world object → shape ≡ shape_at heap.types.now (object_at world.graph object).ty → place < shape.numbers → (place < length (object_at world.graph object).numbers) × (address + (2 + shape.slots + place) < length heap.words.items) × (get_or heap.words.items (address + (2 + shape.slots + place)) 0 ≡ get_or (object_at world.graph object).numbers place 0)
@@ -123,7 +126,7 @@ shows_number heap address world object place shape v at shape_is in_numbers =
       alone = shown.alone;
       sixteen = shown.sixteen;
       able = shown.able;
-      few = shown.few
+      few = shown.few;
     }
 
 -- what the registers name after one of them was set
@@ -144,24 +147,26 @@ made_words-push graph ty shape =
 held_after : (graph : Graph) (object : Object) (registers : List ℕ) (names : List (Option ℕ)) (reg other used : ℕ) → length registers ≡ 16 → length names ≡ 16 → reg < 16 → used ≡ sum_by object_size graph → get_or registers other 0 ≡ address_of graph (get_or names other None) → ((number : ℕ) → get_or names other None ≡ Some number → number < length graph) → get_or (set registers reg (1 + used)) other 0 ≡ address_of (graph ++ object ∷ []) (get_or (set names reg (Some (length graph))) other None)
 held_after graph object registers names reg other used registers_long names_long in_registers counted held named =
     elim (cases_eq other reg) [
-      inl same ↦
-        let first = get_or-set_same registers reg (1 + used) 0 (omega arith) in
-        let last = get_or-set_same names reg (Some (length graph)) None (omega arith) in
-        rw (same, first, last, address_of_last graph object) (omega (arith, counted))
-    | inr differs ↦
-        rw (get_or-set_other registers reg other (1 + used) 0 differs, get_or-set_other names reg other (Some (length graph)) None differs, address_of-push graph object (get_or names other None) named) held ]
+      | inl same ↦
+          let first = get_or-set_same registers reg (1 + used) 0 (omega arith) in
+          let last = get_or-set_same names reg (Some (length graph)) None (omega arith) in
+          rw (same, first, last, address_of_last graph object) (omega (arith, counted))
+      | inr differs ↦
+          rw (get_or-set_other registers reg other (1 + used) 0 differs, get_or-set_other names reg other (Some (length graph)) None differs, address_of-push graph object (get_or names other None) named) held
+    ]
 
 -- and what they name is in the graph
 named_after : (graph : Graph) (object : Object) (names : List (Option ℕ)) (reg other number : ℕ) → length names ≡ 16 → reg < 16 → ((old : ℕ) → get_or names other None ≡ Some old → old < length graph) → get_or (set names reg (Some (length graph))) other None ≡ Some number → number < length (graph ++ object ∷ [])
 named_after graph object names reg other number names_long in_registers named is =
     elim (cases_eq other reg) [
-      inl same ↦
-        let last = get_or-set_same names reg (Some (length graph)) None (omega arith) in
-        let number_is : length graph ≡ number = same_Some (length graph) number (sym last ∙ (rw same at is)) in
-        rw (length_push graph object) (omega arith)
-    | inr differs ↦
-        let before = named number (sym (get_or-set_other names reg other (Some (length graph)) None differs) ∙ is) in
-        rw (length_push graph object) (omega arith) ]
+      | inl same ↦
+          let last = get_or-set_same names reg (Some (length graph)) None (omega arith) in
+          let number_is : length graph ≡ number = same_Some (length graph) number (sym last ∙ (rw same at is)) in
+          rw (length_push graph object) (omega arith)
+      | inr differs ↦
+          let before = named number (sym (get_or-set_other names reg other (Some (length graph)) None differs) ∙ is) in
+          rw (length_push graph object) (omega arith)
+    ]
 
 -- the heap shows the world after a new object
 pub shows_object : (heap : Heap) (world : World) (ty reg : ℕ) (shape : Shape) → ShowsWorld heap world → ty < length heap.types.now → shape ≡ shape_at heap.types.now ty → heap.used + size_of shape ≤ 18 + heap.half → reg < 16 → length heap.registers ≡ 16 → Shows heap.types.now heap.half (set heap.words.items (1 + heap.used) (head_word (fresh_head ty))) (heap.used + size_of shape) (set heap.registers reg (1 + heap.used)) (with_register (with_object world (fresh_object ty (Some 0) shape)) 0 reg (Some (length world.graph)))
@@ -188,5 +193,5 @@ shows_object heap world ty reg shape shown known shape_is fits in_registers sixt
       alone = length-set world.mutators 0 mutator ∙ shown.alone;
       sixteen = ap (λ m. length m.registers) there ∙ (length-set old.registers reg (Some (length world.graph)) ∙ shown.sixteen);
       able = ap (λ m. m.blocked) there ∙ shown.able;
-      few = shown.few
+      few = shown.few;
     }

@@ -3,3 +3,4 @@ pub mod HeapWorld
 pub mod HeapAnswers
 pub mod HeapFirst
 pub mod StreamLemmas
+pub mod PlayLemmas

@@ -100,7 +100,7 @@ impl<'a> Heap<'a> {
         requires shown { (world : World) × ShowsWorld self.now world }
         ensures { (world : World) → ShowsWorld self.now world
             → answer_of self.now world (Ask base place)
-                ≡ record { world = world; reply = result } }
+            ≡ record { world = world; reply = result } }
     {
         let address = self.registers[usize::from(base.index())] as usize;
         if address == 0 {

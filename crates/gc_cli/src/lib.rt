@@ -11,6 +11,8 @@ mod command;
 mod heap;
 mod input;
 mod opts;
+mod output;
+mod play;
 mod status;
 mod text;
 

@@ -1,0 +1,47 @@
+ghost use Rattle.std.specs.Prelude.{◌≡◌, ◌<◌, ◌≤◌, length, slice_get, Some};
+ghost use Rattle.gc_io.specs.Faults.{HasRisen};
+ghost use Rattle.gc_io.specs.Streams.{Appends, AppendsPrefix};
+ghost use Rattle.gc_model.specs.declared.reply.Reply.{Reply as GraphReply};
+ghost use Rattle.gc_script.specs.Script.{number_of_line};
+ghost use Rattle.gc_cli.specs.Text.{text_of, reply_line};
+
+use crate::text::reply_line;
+use gc_io::{Put, Sink};
+use gc_model::Reply;
+use gc_script::Script;
+
+/// Writes the replies to the lines of a script, one piece a line, and stops at the first fault. It takes
+/// no memory.
+pub(crate) fn write_replies<K: Sink>(script: &Script, replies: &[Reply], out: &mut K) -> Put
+    requires { length replies.now ≡ length script.now.lines }
+    ensures all { result ≡ Put.All
+        → Appends (K.written out.old) (K.written out.new) (text_of script.now replies.now) }
+    ensures failed { result ≡ Put.Failed → HasRisen (K.faults out.old) (K.faults out.new) }
+    ensures part { result ≡ Put.Failed
+        → AppendsPrefix (K.written out.old) (K.written out.new) (text_of script.now replies.now) }
+    ensures never_falls { K.faults out.old ≤ K.faults out.new }
+{
+    for place in 0..replies.len() {
+        match write_reply(script, replies, place, out) {
+            Put::All => {}
+            Put::Failed => return Put::Failed,
+        }
+    }
+    Put::All
+}
+
+/// Writes the reply to a line, counted from 0.
+fn write_reply<K: Sink>(script: &Script, replies: &[Reply], place: usize, out: &mut K) -> Put
+    requires there { place < length replies.now }
+    requires answered { length replies.now ≡ length script.now.lines }
+    ensures all { (reply : GraphReply) → slice_get replies.now place ≡ Some reply → result ≡ Put.All
+        → Appends (K.written out.old) (K.written out.new) (reply_line (number_of_line script.now place) reply) }
+    ensures failed { result ≡ Put.Failed → HasRisen (K.faults out.old) (K.faults out.new) }
+    ensures part { (reply : GraphReply) → slice_get replies.now place ≡ Some reply → result ≡ Put.Failed
+        → AppendsPrefix (K.written out.old) (K.written out.new) (reply_line (number_of_line script.now place) reply) }
+    ensures never_falls { K.faults out.old ≤ K.faults out.new }
+{
+    let number = script.line_number(place).unwrap();
+    let line = reply_line(number, &replies[place]);
+    out.put(line.as_bytes())
+}
