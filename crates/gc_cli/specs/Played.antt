@@ -6,6 +6,7 @@ use Rattle.gc_model.specs.Interim.{replies_of}
 use Rattle.gc_model.specs.World.{first_world}
 use Rattle.gc_script.specs.Cut.{IsCutScript}
 use Rattle.gc_script.specs.Script.{Script}
+use Rattle.gc_cli.specs.declared.opts.Opts.{Opts}
 use Rattle.gc_cli.specs.Text.{text_of}
 
 -- the most bytes of a script
@@ -52,3 +53,10 @@ pub record TakesMore (old new : Option (List ℕ)) (room : ℕ) (bytes_old bytes
   pub some : 0 < length taken
   pub few : length taken ≤ room
   pub behind : bytes_new ≡ bytes_old ++ taken
+
+-- the options are within their limits
+pub record IsWithinLimits (opts : Opts) : Type 0 where
+  pub least_half : 64 ≤ opts.nursery
+  pub most_half : opts.nursery ≤ 65536
+  pub some_pages : 1 ≤ opts.pages
+  pub most_pages : opts.pages ≤ 128

@@ -15,6 +15,7 @@ mod output;
 mod play;
 mod status;
 mod text;
+mod top;
 
 pub use command::Request;
 pub use opts::Opts;

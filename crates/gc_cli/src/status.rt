@@ -1,5 +1,10 @@
-ghost use Rattle.std.specs.Prelude.{◌≡◌, ◌≢◌, ◌≤◌, [], length, Ok};
-ghost use Rattle.gc_cli.specs.Command.{code_of, status_line, cause_text};
+ghost use Rattle.std.specs.Prelude.{◌≡◌, ◌≤◌};
+ghost use Rattle.gc_io.specs.Faults.{HasRisen};
+ghost use Rattle.gc_io.specs.Streams.{Appends, AppendsPrefix};
+ghost use Rattle.gc_cli.specs.Command.{code_of, status_line};
+
+use crate::text::status_line;
+use gc_io::Sink;
 
 /// How the program ended.
 #[derive(Clone, Copy, Debug, PartialEq, Eq)]
@@ -48,4 +53,18 @@ pub enum Left {
 pub struct Outcome {
     pub status: Status,
     pub left: Left,
+}
+
+/// Writes the line of a status, as one piece; nothing for Done. Whatever comes of it, the status stays.
+pub(crate) fn write_status<E: Sink>(status: Status, err: &mut E)
+    ensures whole { ¬ HasRisen (E.faults err.old) (E.faults err.new)
+        → Appends (E.written err.old) (E.written err.new) (status_line status) }
+    ensures part { AppendsPrefix (E.written err.old) (E.written err.new) (status_line status) }
+    ensures never_falls { E.faults err.old ≤ E.faults err.new }
+{
+    if status == Status::Done {
+        return;
+    }
+    let line = status_line(status);
+    let _ = err.put(line.as_bytes());
 }

@@ -1,6 +1,7 @@
-ghost use Rattle.std.specs.Prelude.{◌≡◌, ◌+◌, ◌≤◌, ◌++◌, length, codes, decimal};
+ghost use Rattle.std.specs.Prelude.{◌≡◌, [], ◌+◌, ◌≤◌, ◌++◌, length, codes, decimal};
 ghost use Rattle.gc_cli.specs.Text.{reply_text, reply_line};
 ghost use Rattle.gc_cli.specs.Command.{status_line, cause_text};
+ghost use Rattle.gc_cli.specs.declared.status.Status.TheVariants.{Bad};
 
 use crate::status::Status;
 use arrayvec::ArrayString;
@@ -65,4 +66,52 @@ fn push(line: &mut TextLine, text: &str)
     ensures { line.new.bytes ≡ line.old.bytes ++ text.now }
 {
     let _ = line.try_push_str(text);
+}
+
+/// The line of a status on standard error; nothing for Done.
+pub(crate) fn status_line(status: Status) -> TextLine
+    ensures { result.bytes ≡ status_line status }
+{
+    let mut line = ArrayString::new();
+    match status {
+        Status::Done => {}
+        Status::Usage => push(&mut line, "moar_gc: usage\n"),
+        Status::Bad {
+            line: number,
+            cause,
+        } => push_bad(&mut line, number, cause),
+        Status::Long => push(&mut line, "moar_gc: script too long\n"),
+        Status::ReadFault => push(&mut line, "moar_gc: read fault\n"),
+        Status::WriteFault => push(&mut line, "moar_gc: write fault\n"),
+        Status::NoMemory => push(&mut line, "moar_gc: no memory\n"),
+    }
+    line
+}
+
+/// The first bad line and the cause of its first failing test, on an empty line.
+fn push_bad(line: &mut TextLine, number: u32, cause: u8)
+    requires { line.old.bytes ≡ [] }
+    ensures { line.new.bytes ≡ status_line (Bad number cause) }
+{
+    push(line, "moar_gc: line ");
+    push_number(line, u64::from(number));
+    push(line, ": ");
+    push(line, cause_text(cause));
+    push(line, "\n");
+}
+
+/// The word of a cause, by its number.
+fn cause_text(cause: u8) -> &'static str
+    ensures text { result.now ≡ cause_text cause }
+    ensures short { length result.now ≤ 9 }
+{
+    match cause {
+        1 => "version",
+        2 => "word",
+        3 => "number",
+        4 => "register",
+        5 => "type",
+        6 => "mutator",
+        _ => "duplicate",
+    }
 }
