@@ -60,3 +60,7 @@ pub record IsWithinLimits (opts : Opts) : Type 0 where
   pub most_half : opts.nursery ≤ 65536
   pub some_pages : 1 ≤ opts.pages
   pub most_pages : opts.pages ≤ 128
+
+-- the words of a half where no option says otherwise
+abbrev pub default_half : ℕ
+default_half = 4096

@@ -19,4 +19,5 @@ mod top;
 
 pub use command::Request;
 pub use opts::Opts;
-pub use status::{Left, Outcome, Status};
+pub use status::{Left, Outcome, Status, write_status};
+pub use top::{moar_gc, play_bytes};

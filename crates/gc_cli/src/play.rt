@@ -16,7 +16,8 @@ use std::alloc::Global;
 /// before the first line is played.
 pub(crate) fn play(alloc: Global, script: &Script, half: u32) -> Result<Vec<Reply>, NoMemory>
     requires { IsCut script.now }
-    ensures { IfOk result (λ replies. replies.items ≡ graph_replies half script.now) }
+    ensures replies { IfOk result (λ replies. replies.items ≡ graph_replies half script.now) }
+    ensures answered { IfOk result (λ replies. vec_len replies ≡ length script.now.lines) }
 {
     let mut heap = Heap::make(alloc, script.types(), half)?;
     let count = script.count();

@@ -55,8 +55,20 @@ pub struct Outcome {
     pub left: Left,
 }
 
+impl Outcome {
+    /// Ended so, with no heap to hand back.
+    pub(crate) fn nothing_left(status: Status) -> Outcome
+        ensures { result ≡ record { status = status; left = Left.Nothing } }
+    {
+        Outcome {
+            status,
+            left: Left::Nothing,
+        }
+    }
+}
+
 /// Writes the line of a status, as one piece; nothing for Done. Whatever comes of it, the status stays.
-pub(crate) fn write_status<E: Sink>(status: Status, err: &mut E)
+pub fn write_status<E: Sink>(status: Status, err: &mut E)
     ensures whole { ¬ HasRisen (E.faults err.old) (E.faults err.new)
         → Appends (E.written err.old) (E.written err.new) (status_line status) }
     ensures part { AppendsPrefix (E.written err.old) (E.written err.new) (status_line status) }

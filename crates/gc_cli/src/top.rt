@@ -5,7 +5,7 @@ ghost use Rattle.gc_script.specs.Cut.{IsCutScript};
 ghost use Rattle.gc_script.specs.Script.{Script as Text};
 ghost use Rattle.gc_cli.specs.Causes.{HasNoScript};
 ghost use Rattle.gc_cli.specs.Command.{request_of, status_line};
-ghost use Rattle.gc_cli.specs.Played.{IsRead, IsTooLong, IsNoScript, Plays, PlaysInPart, IsWithinLimits};
+ghost use Rattle.gc_cli.specs.Played.{IsRead, IsTooLong, IsNoScript, Plays, PlaysInPart, IsWithinLimits, default_half};
 
 use crate::command::{Request, request_of};
 use crate::input::{InputFault, read_input};
@@ -35,4 +35,100 @@ fn read_source<S: Source>(alloc: Global, src: &mut S) -> Result<Script, Status>
         Err(ScriptFault::Long) => unreachable!(),
         Err(ScriptFault::NoMemory) => Err(Status::NoMemory),
     }
+}
+
+/// Reads a script, plays its lines in the order of the text and writes the replies by line number. It
+/// waits for nobody. A half of the heap has `nursery` words.
+pub fn play_bytes<S: Source, K: Sink>(
+    alloc: Global,
+    opts: &Opts,
+    src: &mut S,
+    out: &mut K,
+) -> Outcome
+    requires { IsWithinLimits opts.now }
+
+    // The source was read to its end, its bytes are a script, and the sink got the graph's replies.
+    ensures done { result.status ≡ Status.Done
+        → ((bytes : List ℕ) × (script : Text) × Plays opts.now.nursery (S.rest src.old) (S.rest src.new)
+        (K.written out.old) (K.written out.new) bytes script) }
+
+    // Each other status has its cause; want of memory is free.
+    ensures no_usage { result.status ≢ Status.Usage }
+    ensures read_fault { result.status ≡ Status.ReadFault → HasRisen (S.faults src.old) (S.faults src.new) }
+    ensures long { result.status ≡ Status.Long
+        → ((bytes : List ℕ) × IsTooLong (S.rest src.old) (S.rest src.new) bytes) }
+    ensures bad { (line cause : ℕ) → result.status ≡ Status.Bad line cause
+        → ((bytes : List ℕ) × IsNoScript (S.rest src.old) (S.rest src.new) bytes) }
+    ensures write_fault { result.status ≡ Status.WriteFault → HasRisen (K.faults out.old) (K.faults out.new) }
+    ensures write_part { result.status ≡ Status.WriteFault
+        → ((bytes : List ℕ) × (script : Text) × PlaysInPart opts.now.nursery (S.rest src.old) (S.rest src.new)
+        (K.written out.old) (K.written out.new) bytes script) }
+
+    // Unless something was played and written, the sink is as before.
+    ensures untouched { result.status ≢ Status.Done → result.status ≢ Status.WriteFault → out.new ≡ out.old }
+    ensures left { result.left ≡ Left.Nothing }
+    ensures src_never_falls { S.faults src.old ≤ S.faults src.new }
+    ensures out_never_falls { K.faults out.old ≤ K.faults out.new }
+{
+    let script = match read_source(alloc, src) {
+        Ok(script) => script,
+        Err(status) => return Outcome::nothing_left(status),
+    };
+    let Ok(replies) = play(alloc, &script, opts.nursery) else {
+        return Outcome::nothing_left(Status::NoMemory);
+    };
+    match write_replies(&script, replies.as_slice(), out) {
+        Put::All => Outcome::nothing_left(Status::Done),
+        Put::Failed => Outcome::nothing_left(Status::WriteFault),
+    }
+}
+
+/// The top call: all that the program does. `args` are the words after the program's name, `src` is its
+/// standard input, `out` its standard output and `err` its standard error. So far no command waits or asks
+/// the gate.
+pub fn moar_gc<R, S: Source, K: Sink, E: Sink, G: Gate + Sync>(
+    _rt: &R,
+    alloc: Global,
+    args: &[String],
+    src: &mut S,
+    out: &mut K,
+    err: &mut E,
+    _gate: &G,
+) -> Outcome
+    // The source was read to its end, its bytes are a script, and the sink got the graph's replies.
+    ensures done { result.status ≡ Status.Done
+        → ((bytes : List ℕ) × (script : Text) × Plays default_half (S.rest src.old) (S.rest src.new)
+        (K.written out.old) (K.written out.new) bytes script) }
+
+    // Each other status has its cause; want of memory is free.
+    ensures usage { (result.status ≡ Status.Usage) ↔ (request_of (map string_bytes args.now) ≡ None) }
+    ensures usage_reads_nothing { result.status ≡ Status.Usage → src.new ≡ src.old }
+    ensures read_fault { result.status ≡ Status.ReadFault → HasRisen (S.faults src.old) (S.faults src.new) }
+    ensures long { result.status ≡ Status.Long
+        → ((bytes : List ℕ) × IsTooLong (S.rest src.old) (S.rest src.new) bytes) }
+    ensures bad { (line cause : ℕ) → result.status ≡ Status.Bad line cause
+        → ((bytes : List ℕ) × IsNoScript (S.rest src.old) (S.rest src.new) bytes) }
+    ensures write_fault { result.status ≡ Status.WriteFault → HasRisen (K.faults out.old) (K.faults out.new) }
+    ensures write_part { result.status ≡ Status.WriteFault
+        → ((bytes : List ℕ) × (script : Text) × PlaysInPart default_half (S.rest src.old) (S.rest src.new)
+        (K.written out.old) (K.written out.new) bytes script) }
+
+    // Unless something was played and written, the sink is as before.
+    ensures untouched { result.status ≢ Status.Done → result.status ≢ Status.WriteFault → out.new ≡ out.old }
+    ensures left { result.left ≡ Left.Nothing }
+
+    // The line of the status goes to standard error, whole where no fault was counted there.
+    ensures told { ¬ HasRisen (E.faults err.old) (E.faults err.new)
+        → Appends (E.written err.old) (E.written err.new) (status_line result.status) }
+    ensures told_part { AppendsPrefix (E.written err.old) (E.written err.new) (status_line result.status) }
+    ensures src_never_falls { S.faults src.old ≤ S.faults src.new }
+    ensures out_never_falls { K.faults out.old ≤ K.faults out.new }
+    ensures err_never_falls { E.faults err.old ≤ E.faults err.new }
+{
+    let outcome = match request_of(args) {
+        Some(Request::Play) => play_bytes(alloc, &Opts::DEFAULT, src, out),
+        None => Outcome::nothing_left(Status::Usage),
+    };
+    write_status(outcome.status, err);
+    outcome
 }
