@@ -1,4 +1,4 @@
-ghost use Rattle.std.specs.Prelude.{◌≡◌, ◌≢◌, ℕ, ◌↔◌, ◌<◌, length, All, IsTrue, IfNone, IfSome, MatchResult};
+ghost use Rattle.std.specs.Prelude.{◌≡◌, ◌≢◌, ◌↔◌, ◌<◌, length, All, IsTrue, IfNone, IfSome, MatchResult};
 ghost use Rattle.gc_model.specs.Interim.{IsBuilt};
 ghost use Rattle.gc_script.specs.Cut.{IsCut};
 ghost use Rattle.gc_script.specs.Fault.{cause_number};
