@@ -1,3 +1,5 @@
+//! The grammar cut down to what can be played so far: one mutator, and the call words `new`, `set` and `ask`.
+
 ghost use Rattle.std.specs.Prelude.{◌≡◌, ◌≢◌, ◌↔◌, ◌<◌, length, All, IsTrue, IfNone, IfSome, MatchResult};
 ghost use Rattle.gc_model.specs.Interim.{IsBuilt};
 ghost use Rattle.gc_script.specs.Cut.{IsCut};

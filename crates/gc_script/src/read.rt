@@ -1,3 +1,5 @@
+//! Reading a whole text line by line, over the whole grammar.
+
 ghost use Rattle.std.specs.Prelude.{◌≡◌, ◌+◌, ◌^◌, ◌<◌, ◌≤◌, [], ◌∷◌, ◌++◌, length, map, All, Ok, IfOk, MatchResult};
 ghost use Rattle.gc_model.specs.declared.call.Line.{Line};
 ghost use Rattle.gc_script.specs.Fault.{Gives, Fails, at_line, located};

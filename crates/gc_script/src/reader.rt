@@ -1,3 +1,6 @@
+//! The reader that callers see: the limit on the length, the whole grammar, and then what can be played
+//! so far.
+
 ghost use Rattle.std.specs.Prelude.{◌≡◌, ℕ, ◌<◌, ◌≤◌, ◌↔◌, ◌⊎◌, length, Err, IfOk, MatchResult, IsErrOf};
 ghost use Rattle.gc_script.specs.Cut.{IsCutScript};
 ghost use Rattle.gc_script.specs.Fault.{cause_number};
@@ -14,8 +17,9 @@ use std::alloc::Global;
 /// The most bytes of a script.
 const MOST_BYTES: usize = 16_777_216;
 
-/// Reads a script. So far only scripts of one mutator with the call words `new`, `set` and `ask` are
-/// taken; any other call word is a fault of its line, and another number of mutators one of line 2.
+/// Reads a script of at most 16,777,216 bytes; a longer text is Long. So far only scripts of one mutator
+/// with the call words `new`, `set` and `ask` are taken; any other call word is a fault of its line, and
+/// another number of mutators one of line 2.
 pub fn read_script(alloc: Global, bytes: &[u8]) -> Result<Script, ScriptFault>
     ensures script { IfOk result (IsCutScript bytes.now) }
     ensures long { IsErrOf result ScriptFault.Long ↔ (16777216 < length bytes.now) }
