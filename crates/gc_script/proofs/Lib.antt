@@ -2,3 +2,4 @@ pub mod TextLemmas
 pub mod NumberLemmas
 pub mod TruncationLemmas
 pub mod ReadingLemmas
+mod Examples

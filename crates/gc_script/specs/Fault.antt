@@ -27,11 +27,12 @@ abbrev pub at_line : {A : Type 0} → ℕ → Result A Cause → Result A Fault
 at_line line (Ok x) = Ok x
 at_line line (Err cause) = Err (record { line = line; cause = cause })
 
--- what a function returned, seen by view, is what reading gives, unless memory ran out
+-- the error is the fault that reading gives, or want of memory
 abbrev pub Fails : {Y E : Type 0} → ReadError E → Result Y E → Type 0
 Fails errors.Memory read = Unit {0}
 Fails (errors.Refused fault) read = read ≡ Err fault
 
+-- what a function returned, seen by view, is what reading gives, unless memory ran out
 abbrev pub Gives : {X Y E : Type 0} → (X → Y) → Result X (ReadError E) → Result Y E → Type 0
 Gives view (Ok x) read = read ≡ Ok (view x)
 Gives view (Err error) read = Fails error read

@@ -248,10 +248,11 @@ script_of bytes = script_of_lines (lines_of bytes)
 abbrev pub IsScript : List ℕ → Script → Type 0
 IsScript bytes script = script_of bytes ≡ Ok script
 
--- the first fault of a text, where it is no script
+-- the fault, where nothing was read
 abbrev pub fault_of : Result Script Fault → Option Fault
 fault_of (Ok script) = None
 fault_of (Err fault) = Some fault
 
+-- the first fault of a text, where it is no script
 abbrev pub first_fault : List ℕ → Option Fault
 first_fault bytes = fault_of (script_of bytes)

@@ -1,3 +1,5 @@
+//! Call lines: a mutator, a call word and what stands behind it.
+
 ghost use Rattle.std.specs.Prelude.{◌≡◌, ℕ, ◌<◌, ◌+◌, length, map, IfOk};
 ghost use Rattle.gc_model.specs.Answer.{Suits};
 ghost use Rattle.gc_script.specs.Script.{IsFitLine};
@@ -29,6 +31,8 @@ pub(crate) enum CallWord {
     Unblock,
     Collect,
 }
+
+// What stands behind each call word, from left to right.
 
 #[tactic(auto, unfolding(crate::specs::Grammar::new_call))]
 fn new_call(names: &[TypeName], words: &[&[u8]]) -> Result<Call, Cause>
@@ -258,6 +262,7 @@ pub(crate) fn call_line(preamble: &Preamble, words: &[&[u8]]) -> Result<Line, Ca
     Ok(Line { mutator, call })
 }
 
+/// Which call word this is.
 #[tactic(auto, unfolding(crate::specs::Grammar::call_word))]
 fn call_word(word: &[u8]) -> Result<CallWord, Cause>
     ensures { result ≡ call_word word.now }
@@ -283,6 +288,7 @@ fn call_word(word: &[u8]) -> Result<CallWord, Cause>
     }
 }
 
+/// How many words stand behind a call word.
 #[tactic(auto, unfolding(crate::specs::Grammar::argument_count))]
 fn argument_count(word: CallWord) -> usize
     ensures { result ≡ argument_count word }

@@ -1,3 +1,5 @@
+//! Cutting a text into lines, and a line into words.
+
 ghost use Rattle.std.specs.Prelude.{◌≡◌, ◌<◌, ◌≤◌, ◌∷◌, [], map, take, length, MatchOption};
 ghost use Rattle.std.specs.Option.{option_copied};
 ghost use Rattle.gc_script.specs.Text.{lines_of, words_of, words_behind, bytes_before};

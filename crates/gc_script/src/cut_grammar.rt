@@ -1,6 +1,8 @@
-ghost use Rattle.std.specs.Prelude.{◌≡◌, ◌≢◌, ℕ, ◌↔◌, ◌<◌, length, All, IsTrue, IfNone, IfSome, MatchResult};
+//! The grammar cut down to what can be played so far: one mutator, and the call words `new`, `set` and `ask`.
+
+ghost use Rattle.std.specs.Prelude.{◌≡◌, ◌≢◌, ◌↔◌, ◌<◌, length, IsTrue, IfNone, IfSome, IfErr, MatchResult};
 ghost use Rattle.gc_model.specs.Interim.{IsBuilt};
-ghost use Rattle.gc_script.specs.Cut.{IsCut};
+ghost use Rattle.gc_script.specs.Cut.{AreBuilt, IsCut, IsCutFault, IsFirstUnbuilt};
 ghost use Rattle.gc_script.specs.Fault.{cause_number};
 
 use crate::fault::{Cause, ScriptFault};
@@ -9,9 +11,10 @@ use gc_model::{Call, Line};
 
 /// The script, where it can be played so far; else the first line that can't be.
 pub(crate) fn cut(script: Script) -> Result<Script, ScriptFault>
-    ensures { MatchResult result
+    ensures cut { MatchResult result
         (λ same. (same ≡ script) × IsCut script)
         (λ fault. (fault ≢ ScriptFault.Long) × ¬ IsCut script) }
+    ensures told { IfErr result (IsCutFault script) }
 {
     if script.mutators() != 1 {
         return Err(bad(2, Cause::Mutator));
@@ -34,8 +37,9 @@ fn bad(line: u32, cause: Cause) -> ScriptFault
 
 /// The place of the first line whose call can't be played so far, counted from 0.
 fn first_unbuilt(lines: &[Line]) -> Option<usize>
-    ensures all { IfNone result (All (λ line. IsBuilt line.call) lines.now) }
-    ensures some { IfSome result (λ place. (place < length lines.now) × ¬ All (λ line. IsBuilt line.call) lines.now) }
+    ensures all { IfNone result (AreBuilt lines.now) }
+    ensures some { IfSome result (λ place. (place < length lines.now) × ¬ AreBuilt lines.now) }
+    ensures first { IfSome result (IsFirstUnbuilt lines.now) }
 {
     for (place, line) in lines.iter().enumerate() {
         if !is_built(&line.call) {

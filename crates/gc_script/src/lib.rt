@@ -17,6 +17,8 @@ mod preamble;
 mod read;
 mod reader;
 mod script;
+#[cfg(test)]
+mod tests;
 mod words;
 
 pub use fault::ScriptFault;

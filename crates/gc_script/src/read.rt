@@ -1,9 +1,11 @@
-ghost use Rattle.std.specs.Prelude.{◌≡◌, ℕ, ◌+◌, ◌^◌, ◌<◌, ◌≤◌, ◌↔◌, [], ◌∷◌, ◌++◌, length, map, All, Err, Ok, IfOk, MatchResult, IsErrOf};
+//! Reading a whole text line by line, over the whole grammar.
+
+ghost use Rattle.std.specs.Prelude.{◌≡◌, ◌+◌, ◌^◌, ◌<◌, ◌≤◌, [], ◌∷◌, ◌++◌, length, map, All, Ok, IfOk, MatchResult};
 ghost use Rattle.gc_model.specs.declared.call.Line.{Line};
 ghost use Rattle.gc_script.specs.Fault.{Gives, Fails, at_line, located};
 ghost use Rattle.gc_script.specs.declared.fault.ReadError.TheVariants.{Refused};
 ghost use Rattle.gc_script.specs.Grammar.{mutators_line, is_type_line, type_line, call_line, call_lines, body, after_version, script_of, script_with_calls};
-ghost use Rattle.gc_script.specs.Script.{Script as Text, IsFitLine, first_preamble};
+ghost use Rattle.gc_script.specs.Script.{IsFitLine};
 ghost use Rattle.gc_script.specs.Text.{lines_of, words_of};
 
 use crate::call_line::call_line;

@@ -1,5 +1,4 @@
-ghost use Rattle.std.specs.Prelude.{◌≡◌, ◌+◌, ◌<◌, ◌≤◌, ◌↔◌, length, slice_get, IsNone, IfSome};
-ghost use Rattle.gc_model.specs.Answer.{IsFit};
+ghost use Rattle.std.specs.Prelude.{◌≡◌, ◌<◌, ◌≤◌, ◌↔◌, length, slice_get, IsNone, IfSome};
 
 use crate::lines::Lines;
 use crate::preamble::Preamble;

@@ -1,9 +1,11 @@
-ghost use Rattle.std.specs.Prelude.{◌≡◌, ◌<◌, ◌≤◌, ◌∷◌, ◌^◌, ◌&&◌, List, length, map, true, Some, None, IfOk, if◌then◌else◌, nat_lt, nat_le};
+//! The kinds of words: numbers, registers, mutators and the letters of type names.
+
+ghost use Rattle.std.specs.Prelude.{◌≡◌, ◌<◌, ◌^◌, ◌&&◌, Some, None, IfOk, if◌then◌else◌, nat_lt};
 ghost use Rattle.std.specs.List.{list_all};
 ghost use Rattle.std.specs.Str.{all_ascii_digits};
 ghost use Rattle.std.specs.Str.Parse.{digits_value};
 ghost use Rattle.gc_script.specs.Words.{numeral, number_below, number, small, common_place, register, is_type_name, is_letter};
-ghost use Rattle.gc_script.specs.declared.fault.Cause.TheVariants.{Number, Mutator};
+ghost use Rattle.gc_script.specs.declared.fault.Cause.TheVariants.{Mutator};
 
 use crate::fault::Cause;
 use gc_model::Reg;
