@@ -1,5 +1,5 @@
 -- A new heap shows the first world.
-use Rattle.std.proofs.Common.{◌≡◌, ℕ, suc, ◌+◌, ◌-◌, ◌<◌, ◌≤◌, List, [], ◌∷◌, ◌++◌, length, replicate, get_or, set, Option, Some, None, refl, sym, ap, ◌∙◌, inl, inr, arith}
+use Rattle.std.proofs.Common.{◌≡◌, ℕ, suc, ◌+◌, List, [], ◌∷◌, replicate, get_or, set, Option, None, refl, sym, ap, ◌∙◌, inl, inr, arith}
 use Rattle.std.proofs.lemmas.Bool.{cases_lt}
 use Rattle.std.proofs.lemmas.List.{get_or-replicate, get_or_past, length-replicate}
 use Rattle.std.proofs.lemmas.List.Elements.{All-cons, All-nil}
@@ -18,8 +18,9 @@ use Rattle.gc_cli.proofs.HeapLemmas.{objects_push}
 get_or-replicate_same : {X : Type 0} (n i : ℕ) (x : X) → get_or (replicate n x) i x ≡ x
 get_or-replicate_same n i x =
     elim (cases_lt i n) [
-      inl below ↦ get_or-replicate n i x x below
-    | inr past ↦ get_or_past (replicate n x) i x (rw (length-replicate n x) past) ]
+      | inl below ↦ get_or-replicate n i x x below
+      | inr past ↦ get_or_past (replicate n x) i x (rw (length-replicate n x) past)
+    ]
 
 pub shows_first : (types : List Shape) (half header : ℕ) (words : List ℕ) → AreTypes types → words ≡ replicate (19 + half) 0 → header ≡ head_word (fresh_head 0) → Shows types half (set words 1 header) 18 (replicate 16 0) (first_world 1)
 shows_first types half header words are words_is header_is =
@@ -40,5 +41,5 @@ shows_first types half header words are words_is header_is =
       alone = refl;
       sixteen = refl;
       able = refl;
-      few = are.few
+      few = are.few;
     }

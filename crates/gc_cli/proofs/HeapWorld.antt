@@ -1,11 +1,10 @@
 -- The words and the world that they show: what a read finds, and what a write and a new object leave.
-use Rattle.std.proofs.Common.{◌≡◌, ◌≢◌, ℕ, zero, suc, ◌+◌, ◌-◌, ◌*◌, ◌<◌, ◌≤◌, List, [], ◌∷◌, ◌++◌, length, take, drop, replicate, flat_map, sum_by, get_or, set, map, filter, Bool, true, false, cond, Option, Some, None, refl, sym, ap, subst, ◌∙◌, arith, append_assoc, length-append, add-one, zero-add, All, inl, inr, ⊎_elim}
+use Rattle.std.proofs.Common.{◌≡◌, ℕ, zero, suc, ◌+◌, ◌-◌, ◌<◌, ◌≤◌, List, [], ◌∷◌, ◌++◌, length, take, replicate, flat_map, sum_by, get_or, set, map, filter, Bool, true, false, cond, Option, Some, None, refl, sym, ap, ◌∙◌, arith, length-append, inl, inr}
 use Rattle.std.proofs.lemmas.List.{length-replicate, length-set, length_push, map-set, take-map, get_or-map, set-get_or, get_or-append-add, get_or-set_same, get_or-set_other, take_at, take-append-le, get_or_read}
 use Rattle.std.proofs.lemmas.List.Elements.{All-get_or, All-set, All-push, filter-append}
-use Rattle.std.proofs.lemmas.List.Sums.{sum_by-cons, sum_by_push, sum_by-append, sum-map, sum_by-set}
-use Rattle.std.proofs.lemmas.Bool.{cases_eq, leb-true, leb-false, le-leb, lt-leb}
+use Rattle.std.proofs.lemmas.List.Sums.{sum_by-cons, sum_by_push, sum-map, sum_by-set}
+use Rattle.std.proofs.lemmas.Bool.{cases_eq}
 use Rattle.std.proofs.lemmas.Option.{same_Some}
-use Rattle.std.proofs.lemmas.Grind.{common_steps}
 use Rattle.gc_layout.specs.declared.shape.Shape.{Shape}
 use Rattle.gc_layout.specs.Shape.{size_of}
 use Rattle.gc_layout.specs.Head.{head_word}
@@ -13,7 +12,7 @@ use Rattle.gc_model.specs.Answer.{shape_at}
 use Rattle.gc_model.specs.Graph.{Object, Graph, common_object, object_at, object_size, made_words, fresh_object, is_made_by}
 use Rattle.gc_model.specs.World.{World, Mutator, fresh_mutator, mutator_at, named_by, with_number, with_object, with_register}
 use Rattle.gc_cli.specs.declared.heap.Heap.{Heap}
-use Rattle.gc_cli.specs.Heap.{object_words, address_of, fresh_head, IsShaped, Shows, ShowsWorld, IsObjectAt}
+use Rattle.gc_cli.specs.Heap.{object_words, address_of, fresh_head, IsShaped, Shows, ShowsWorld, IsObjectAt, IsNumberAt}
 use Rattle.gc_cli.proofs.HeapLemmas.{set-append-add, length-objects, objects_read, objects_write, objects_push}
 
 -- the words before an object's numbers
@@ -84,36 +83,33 @@ header_at heap address world object at =
     let read = objects_read world.graph object 0 words (replicate (18 + heap.half - heap.used) 0) at.shown.laid_out at.in_graph (omega arith) in
     let shaped : IsShaped heap.types.now (object_at world.graph object) = All-get_or (IsShaped heap.types.now) world.graph object common_object at.in_graph at.shown.shaped in
     let same : address ≡ address_of world.graph (Some object) + 0 = omega (arith, at.found) in
-    let within : address < length words = omega (arith, read.0) in
-    (within, shaped.known, omega (arith, shaped.known, at.shown.few),
-    λ word reads. sym (get_or_read words address word within reads 0 ∙ (ap (λ k. get_or words k 0) same ∙ read.1)))
+    let within : address < length words = omega (arith, read.0) in (
+      within,
+      shaped.known,
+      omega (arith, shaped.known, at.shown.few),
+      λ word reads. sym (get_or_read words address word within reads 0 ∙ (ap (λ k. get_or words k 0) same ∙ read.1)),
+    )
 
--- a number stands behind the header, the forwarding word and the slots
-pub number_at : (heap : Heap) (address : ℕ) (world : World) (object place : ℕ) (shape : Shape) → IsObjectAt heap address world object → shape ≡ shape_at heap.types.now (object_at world.graph object).ty → place < shape.numbers → (place < length (object_at world.graph object).numbers) × (address + (2 + shape.slots + place) < length heap.words.items) × (get_or heap.words.items (address + (2 + shape.slots + place)) 0 ≡ get_or (object_at world.graph object).numbers place 0)
-number_at heap address world object place shape at shape_is in_numbers =
-    let words = heap.words.items in
-    let o = object_at world.graph object in
-    let shaped : IsShaped heap.types.now o = All-get_or (IsShaped heap.types.now) world.graph object common_object at.in_graph at.shown.shaped in
-    let numbers : length o.numbers ≡ shape.numbers = rw shape_is shaped.numbers in
-    let slots : length o.slots ≡ shape.slots = rw shape_is shaped.slots in
-    let read = objects_read world.graph object (2 + length o.slots + place) words (replicate (18 + heap.half - heap.used) 0) at.shown.laid_out at.in_graph (omega arith) in
-    rw (at.found, ← slots) (omega arith, read.0, read.1 ∙ number_read o place)
+-- the word at a number's address is the number
+pub number_at : (heap : Heap) (address : ℕ) (world : World) (object base place : ℕ) → IsNumberAt heap address world object base place → (address < length heap.words.items) × (get_or heap.words.items address 0 ≡ get_or (object_at world.graph object).numbers place 0)
+number_at heap address world object base place at =
+    let there = object_at world.graph object in
+    let read = objects_read world.graph object (2 + length there.slots + place) heap.words.items (replicate (18 + heap.half - heap.used) 0) at.shown.laid_out at.in_graph (omega (arith, at.in_numbers)) in
+    rw at.found (read.0, read.1 ∙ number_read there place)
 
 -- the heap shows the world after a write to a number
-pub shows_number : (heap : Heap) (address : ℕ) (world : World) (object place : ℕ) (shape : Shape) (v : ℕ) → IsObjectAt heap address world object → shape ≡ shape_at heap.types.now (object_at world.graph object).ty → place < shape.numbers → Shows heap.types.now heap.half (set heap.words.items (address + (2 + shape.slots + place)) v) heap.used heap.registers (with_number world object place v)
-shows_number heap address world object place shape v at shape_is in_numbers =
+pub shows_number : (heap : Heap) (address : ℕ) (world : World) (object base place : ℕ) (v : ℕ) → IsNumberAt heap address world object base place → Shows heap.types.now heap.half (set heap.words.items address v) heap.used heap.registers (with_number world object place v)
+shows_number heap address world object base place v at =
     let shown = at.shown in
     let old = object_at world.graph object in
     let shaped : IsShaped heap.types.now old = All-get_or (IsShaped heap.types.now) world.graph object common_object at.in_graph shown.shaped in
-    let numbers : length old.numbers ≡ shape.numbers = rw shape_is shaped.numbers in
-    let slots : length old.slots ≡ shape.slots = rw shape_is shaped.slots in
     let new : Object = record old { numbers = set old.numbers place v } in
     let size : object_size new ≡ object_size old = omega (arith, length-set old.numbers place v) in
-    let write = objects_write world.graph object (2 + length old.slots + place) v new heap.words.items (replicate (18 + heap.half - heap.used) 0) shown.laid_out at.in_graph (omega arith) (number_write old place v) in
+    let write = objects_write world.graph object (2 + length old.slots + place) v new heap.words.items (replicate (18 + heap.half - heap.used) 0) shown.laid_out at.in_graph (omega (arith, at.in_numbers)) (number_write old place v) in
     let total : sum_by object_size (set world.graph object new) ≡ sum_by object_size world.graph = omega (arith, sum_by-set object_size world.graph object new common_object at.in_graph) in
     let made : made_words (set world.graph object new) 0 ≡ made_words world.graph 0 = sum_by-filter-set object_size (is_made_by 0) world.graph object new common_object size refl in
     record {
-      laid_out = rw (at.found, ← slots) write;
+      laid_out = rw at.found write;
       counted = shown.counted ∙ sym total;
       made = rw made shown.made;
       within = shown.within;
@@ -123,7 +119,7 @@ shows_number heap address world object place shape v at shape_is in_numbers =
       alone = shown.alone;
       sixteen = shown.sixteen;
       able = shown.able;
-      few = shown.few
+      few = shown.few;
     }
 
 -- what the registers name after one of them was set
@@ -144,24 +140,26 @@ made_words-push graph ty shape =
 held_after : (graph : Graph) (object : Object) (registers : List ℕ) (names : List (Option ℕ)) (reg other used : ℕ) → length registers ≡ 16 → length names ≡ 16 → reg < 16 → used ≡ sum_by object_size graph → get_or registers other 0 ≡ address_of graph (get_or names other None) → ((number : ℕ) → get_or names other None ≡ Some number → number < length graph) → get_or (set registers reg (1 + used)) other 0 ≡ address_of (graph ++ object ∷ []) (get_or (set names reg (Some (length graph))) other None)
 held_after graph object registers names reg other used registers_long names_long in_registers counted held named =
     elim (cases_eq other reg) [
-      inl same ↦
-        let first = get_or-set_same registers reg (1 + used) 0 (omega arith) in
-        let last = get_or-set_same names reg (Some (length graph)) None (omega arith) in
-        rw (same, first, last, address_of_last graph object) (omega (arith, counted))
-    | inr differs ↦
-        rw (get_or-set_other registers reg other (1 + used) 0 differs, get_or-set_other names reg other (Some (length graph)) None differs, address_of-push graph object (get_or names other None) named) held ]
+      | inl same ↦
+          let first = get_or-set_same registers reg (1 + used) 0 (omega arith) in
+          let last = get_or-set_same names reg (Some (length graph)) None (omega arith) in
+          rw (same, first, last, address_of_last graph object) (omega (arith, counted))
+      | inr differs ↦
+          rw (get_or-set_other registers reg other (1 + used) 0 differs, get_or-set_other names reg other (Some (length graph)) None differs, address_of-push graph object (get_or names other None) named) held
+    ]
 
 -- and what they name is in the graph
 named_after : (graph : Graph) (object : Object) (names : List (Option ℕ)) (reg other number : ℕ) → length names ≡ 16 → reg < 16 → ((old : ℕ) → get_or names other None ≡ Some old → old < length graph) → get_or (set names reg (Some (length graph))) other None ≡ Some number → number < length (graph ++ object ∷ [])
 named_after graph object names reg other number names_long in_registers named is =
     elim (cases_eq other reg) [
-      inl same ↦
-        let last = get_or-set_same names reg (Some (length graph)) None (omega arith) in
-        let number_is : length graph ≡ number = same_Some (length graph) number (sym last ∙ (rw same at is)) in
-        rw (length_push graph object) (omega arith)
-    | inr differs ↦
-        let before = named number (sym (get_or-set_other names reg other (Some (length graph)) None differs) ∙ is) in
-        rw (length_push graph object) (omega arith) ]
+      | inl same ↦
+          let last = get_or-set_same names reg (Some (length graph)) None (omega arith) in
+          let number_is : length graph ≡ number = same_Some (length graph) number (sym last ∙ (rw same at is)) in
+          rw (length_push graph object) (omega arith)
+      | inr differs ↦
+          let before = named number (sym (get_or-set_other names reg other (Some (length graph)) None differs) ∙ is) in
+          rw (length_push graph object) (omega arith)
+    ]
 
 -- the heap shows the world after a new object
 pub shows_object : (heap : Heap) (world : World) (ty reg : ℕ) (shape : Shape) → ShowsWorld heap world → ty < length heap.types.now → shape ≡ shape_at heap.types.now ty → heap.used + size_of shape ≤ 18 + heap.half → reg < 16 → length heap.registers ≡ 16 → Shows heap.types.now heap.half (set heap.words.items (1 + heap.used) (head_word (fresh_head ty))) (heap.used + size_of shape) (set heap.registers reg (1 + heap.used)) (with_register (with_object world (fresh_object ty (Some 0) shape)) 0 reg (Some (length world.graph)))
@@ -188,5 +186,5 @@ shows_object heap world ty reg shape shown known shape_is fits in_registers sixt
       alone = length-set world.mutators 0 mutator ∙ shown.alone;
       sixteen = ap (λ m. length m.registers) there ∙ (length-set old.registers reg (Some (length world.graph)) ∙ shown.sixteen);
       able = ap (λ m. m.blocked) there ∙ shown.able;
-      few = shown.few
+      few = shown.few;
     }
