@@ -1,13 +1,13 @@
 -- What the graph answers to a New, an Ask or a Set in a world that the words show.
-use Rattle.std.proofs.Common.{◌≡◌, ◌≢◌, ℕ, zero, suc, ◌+◌, ◌-◌, ◌<◌, ◌≤◌, List, length, get_or, set, Bool, true, false, Option, Some, None, refl, sym, ap, subst, ◌∙◌, arith}
-use Rattle.std.proofs.lemmas.Bool.{le-leb, lt-leb, lt-ltb, le-ltb}
+use Rattle.std.proofs.Common.{◌≡◌, ◌≢◌, ℕ, ◌+◌, ◌<◌, ◌≤◌, List, length, get_or, set, Bool, true, false, Option, Some, None, refl, sym, ap, subst, ◌∙◌, arith}
+use Rattle.std.proofs.lemmas.Bool.{le-leb, lt-leb, lt-ltb}
 use Rattle.gc_layout.specs.declared.shape.Shape.{Shape}
 use Rattle.gc_layout.specs.Shape.{size_of}
 use Rattle.gc_layout.specs.Head.{head_word}
 use Rattle.gc_model.specs.declared.call.Call.{Call}
 use Rattle.gc_model.specs.declared.call.Call.TheVariants.{New, Ask, Set}
-use Rattle.gc_model.specs.declared.reply.Reply.TheVariants.{Full, Range, Number}
-use Rattle.gc_model.specs.Answer.{Answer, answer, effect, wants_blocked, shape_at, keeps, does}
+use Rattle.gc_model.specs.declared.reply.Reply.TheVariants.{Full, Number}
+use Rattle.gc_model.specs.Answer.{answer, effect, wants_blocked, shape_at, keeps, does}
 use Rattle.gc_model.specs.Interim.{answer_to, has_room}
 use Rattle.gc_model.specs.Graph.{Graph, object_at, made_words, fresh_object}
 use Rattle.gc_model.specs.World.{World, named_by, is_blocked, with_number, with_object, with_register}
@@ -29,20 +29,11 @@ named_object heap world reg shown some =
     let object = named_object_of world.graph (named_by world 0 reg) (get_or heap.registers reg 0) (shown.held reg) some in
     (object.0, object.1, record { shown = shown; in_graph = shown.named reg object.0 object.1; found = object.2 })
 
--- an Ask and a Set are refused behind the last number
-pub asked_range : (types : List Shape) (half : ℕ) (world : World) (base place number : ℕ) → is_blocked world 0 ≡ false → named_by world 0 base ≡ Some number → length (object_at world.graph number).numbers ≤ place → answer_to types half world (record { mutator = 0; call = Ask base place }) ≡ keeps world Range
-asked_range types half world base place number able named out =
-    answer-able types world (Ask base place) true able refl ∙ rw (named, le-ltb place (length (object_at world.graph number).numbers) out) refl
-
+-- a number that the object has is read or written
 pub asked_number : (types : List Shape) (half : ℕ) (world : World) (base place number : ℕ) → is_blocked world 0 ≡ false → named_by world 0 base ≡ Some number → place < length (object_at world.graph number).numbers → answer_to types half world (record { mutator = 0; call = Ask base place }) ≡ keeps world (Number (get_or (object_at world.graph number).numbers place 0))
 asked_number types half world base place number able named within =
     answer-able types world (Ask base place) true able refl ∙ rw (named, lt-ltb place (length (object_at world.graph number).numbers) within) refl
 
-pub set_range : (types : List Shape) (half : ℕ) (world : World) (base place v number : ℕ) → is_blocked world 0 ≡ false → named_by world 0 base ≡ Some number → length (object_at world.graph number).numbers ≤ place → answer_to types half world (record { mutator = 0; call = Set base place v }) ≡ keeps world Range
-set_range types half world base place v number able named out =
-    answer-able types world (Set base place v) true able refl ∙ rw (named, le-ltb place (length (object_at world.graph number).numbers) out) refl
-
--- otherwise the number is read or written
 pub set_number : (types : List Shape) (half : ℕ) (world : World) (base place v number : ℕ) → is_blocked world 0 ≡ false → named_by world 0 base ≡ Some number → place < length (object_at world.graph number).numbers → answer_to types half world (record { mutator = 0; call = Set base place v }) ≡ does (with_number world number place v)
 set_number types half world base place v number able named within =
     answer-able types world (Set base place v) true able refl ∙ rw (named, lt-ltb place (length (object_at world.graph number).numbers) within) refl

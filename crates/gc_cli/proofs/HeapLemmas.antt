@@ -1,14 +1,13 @@
 -- The words of the objects, one object behind another.
-use Rattle.std.proofs.Common.{◌≡◌, ℕ, zero, suc, ◌+◌, ◌-◌, ◌*◌, ◌<◌, ◌≤◌, List, [], ◌∷◌, ◌++◌, length, take, drop, replicate, flat_map, sum_by, get_or, set, map, filter, Bool, true, false, cond, Option, Some, None, refl, sym, ap, subst, ◌∙◌, arith, append_assoc, length-append, add-one, zero-add, All}
-use Rattle.std.proofs.lemmas.List.{length-replicate, map-append, set-append_left, set-append_right, get_or_append_left, get_or-append-add, append-nil, set_at, replicate-append-replicate, length-set}
+use Rattle.std.proofs.Common.{◌≡◌, ℕ, zero, suc, ◌+◌, ◌-◌, ◌<◌, ◌≤◌, List, [], ◌∷◌, ◌++◌, length, take, replicate, flat_map, sum_by, get_or, set, Option, Some, refl, sym, ap, ◌∙◌, arith, append_assoc, length-append, zero-add}
+use Rattle.std.proofs.lemmas.List.{length-replicate, set-append_left, set-append_right, get_or_append_left, append-nil, set_at, replicate-append-replicate}
 use Rattle.std.proofs.lemmas.List.Concat.{get_or-flat_map, flat_map-append}
-use Rattle.std.proofs.lemmas.List.Sums.{sum_by-cons, sum_by_push, sum_by-append, sum_by_more_le}
-use Rattle.std.proofs.lemmas.Grind.{common_steps}
+use Rattle.std.proofs.lemmas.List.Sums.{sum_by-cons, sum_by_more_le}
 use Rattle.gc_layout.specs.declared.shape.Shape.{Shape}
 use Rattle.gc_layout.specs.Shape.{size_of}
 use Rattle.gc_layout.specs.Head.{head_word}
-use Rattle.gc_model.specs.Graph.{Object, Graph, common_object, object_at, object_size, made_words, fresh_object, is_made_by}
-use Rattle.gc_cli.specs.Heap.{object_words, address_of, fresh_head, IsShaped}
+use Rattle.gc_model.specs.Graph.{Object, Graph, common_object, object_at, object_size, fresh_object}
+use Rattle.gc_cli.specs.Heap.{object_words, address_of, fresh_head}
 
 -- a write past the first list is a write to the second
 pub set-append-add : {X : Type 0} (xs ys : List X) (n : ℕ) (y : X) → set (xs ++ ys) (length xs + n) y ≡ xs ++ set ys n y
@@ -67,7 +66,7 @@ objects_write graph number j v object words rest laid_out in_graph in_object sam
 pub fresh_words : (ty : ℕ) (maker : Option ℕ) (shape : Shape) (n : ℕ) → object_words (fresh_object ty maker shape) ++ replicate n 0 ≡ head_word (fresh_head ty) ∷ replicate (1 + shape.slots + shape.numbers + n) 0
 fresh_words ty maker shape n =
     let more : 1 + shape.slots + shape.numbers + n ≡ suc (shape.slots + shape.numbers + n) = omega arith in
-    rw more (simp (length-replicate, append_assoc, replicate-append-replicate))
+    rw more (simp (length-replicate, replicate-append-replicate))
 
 one_more : (xs ys zs : List ℕ) → xs ++ (ys ++ zs) ≡ (xs ++ (ys ++ [])) ++ zs
 one_more xs ys zs = simp (append_assoc, append-nil)

@@ -1,11 +1,10 @@
 -- The words and the world that they show: what a read finds, and what a write and a new object leave.
-use Rattle.std.proofs.Common.{◌≡◌, ◌≢◌, ℕ, zero, suc, ◌+◌, ◌-◌, ◌*◌, ◌<◌, ◌≤◌, List, [], ◌∷◌, ◌++◌, length, take, drop, replicate, flat_map, sum_by, get_or, set, map, filter, Bool, true, false, cond, Option, Some, None, refl, sym, ap, subst, ◌∙◌, arith, append_assoc, length-append, add-one, zero-add, All, inl, inr, ⊎_elim}
+use Rattle.std.proofs.Common.{◌≡◌, ℕ, zero, suc, ◌+◌, ◌-◌, ◌<◌, ◌≤◌, List, [], ◌∷◌, ◌++◌, length, take, replicate, flat_map, sum_by, get_or, set, map, filter, Bool, true, false, cond, Option, Some, None, refl, sym, ap, ◌∙◌, arith, length-append, inl, inr}
 use Rattle.std.proofs.lemmas.List.{length-replicate, length-set, length_push, map-set, take-map, get_or-map, set-get_or, get_or-append-add, get_or-set_same, get_or-set_other, take_at, take-append-le, get_or_read}
 use Rattle.std.proofs.lemmas.List.Elements.{All-get_or, All-set, All-push, filter-append}
-use Rattle.std.proofs.lemmas.List.Sums.{sum_by-cons, sum_by_push, sum_by-append, sum-map, sum_by-set}
-use Rattle.std.proofs.lemmas.Bool.{cases_eq, leb-true, leb-false, le-leb, lt-leb}
+use Rattle.std.proofs.lemmas.List.Sums.{sum_by-cons, sum_by_push, sum-map, sum_by-set}
+use Rattle.std.proofs.lemmas.Bool.{cases_eq}
 use Rattle.std.proofs.lemmas.Option.{same_Some}
-use Rattle.std.proofs.lemmas.Grind.{common_steps}
 use Rattle.gc_layout.specs.declared.shape.Shape.{Shape}
 use Rattle.gc_layout.specs.Shape.{size_of}
 use Rattle.gc_layout.specs.Head.{head_word}
@@ -13,7 +12,7 @@ use Rattle.gc_model.specs.Answer.{shape_at}
 use Rattle.gc_model.specs.Graph.{Object, Graph, common_object, object_at, object_size, made_words, fresh_object, is_made_by}
 use Rattle.gc_model.specs.World.{World, Mutator, fresh_mutator, mutator_at, named_by, with_number, with_object, with_register}
 use Rattle.gc_cli.specs.declared.heap.Heap.{Heap}
-use Rattle.gc_cli.specs.Heap.{object_words, address_of, fresh_head, IsShaped, Shows, ShowsWorld, IsObjectAt}
+use Rattle.gc_cli.specs.Heap.{object_words, address_of, fresh_head, IsShaped, Shows, ShowsWorld, IsObjectAt, IsNumberAt}
 use Rattle.gc_cli.proofs.HeapLemmas.{set-append-add, length-objects, objects_read, objects_write, objects_push}
 
 -- the words before an object's numbers
@@ -91,32 +90,26 @@ header_at heap address world object at =
       λ word reads. sym (get_or_read words address word within reads 0 ∙ (ap (λ k. get_or words k 0) same ∙ read.1)),
     )
 
--- a number stands behind the header, the forwarding word and the slots
-pub number_at : (heap : Heap) (address : ℕ) (world : World) (object place : ℕ) (shape : Shape) → IsObjectAt heap address world object → shape ≡ shape_at heap.types.now (object_at world.graph object).ty → place < shape.numbers → (place < length (object_at world.graph object).numbers) × (address + (2 + shape.slots + place) < length heap.words.items) × (get_or heap.words.items (address + (2 + shape.slots + place)) 0 ≡ get_or (object_at world.graph object).numbers place 0)
-number_at heap address world object place shape at shape_is in_numbers =
-    let words = heap.words.items in
-    let o = object_at world.graph object in
-    let shaped : IsShaped heap.types.now o = All-get_or (IsShaped heap.types.now) world.graph object common_object at.in_graph at.shown.shaped in
-    let numbers : length o.numbers ≡ shape.numbers = rw shape_is shaped.numbers in
-    let slots : length o.slots ≡ shape.slots = rw shape_is shaped.slots in
-    let read = objects_read world.graph object (2 + length o.slots + place) words (replicate (18 + heap.half - heap.used) 0) at.shown.laid_out at.in_graph (omega arith) in
-    rw (at.found, ← slots) (omega arith, read.0, read.1 ∙ number_read o place)
+-- the word at a number's address is the number
+pub number_at : (heap : Heap) (address : ℕ) (world : World) (object base place : ℕ) → IsNumberAt heap address world object base place → (address < length heap.words.items) × (get_or heap.words.items address 0 ≡ get_or (object_at world.graph object).numbers place 0)
+number_at heap address world object base place at =
+    let there = object_at world.graph object in
+    let read = objects_read world.graph object (2 + length there.slots + place) heap.words.items (replicate (18 + heap.half - heap.used) 0) at.shown.laid_out at.in_graph (omega (arith, at.in_numbers)) in
+    rw at.found (read.0, read.1 ∙ number_read there place)
 
 -- the heap shows the world after a write to a number
-pub shows_number : (heap : Heap) (address : ℕ) (world : World) (object place : ℕ) (shape : Shape) (v : ℕ) → IsObjectAt heap address world object → shape ≡ shape_at heap.types.now (object_at world.graph object).ty → place < shape.numbers → Shows heap.types.now heap.half (set heap.words.items (address + (2 + shape.slots + place)) v) heap.used heap.registers (with_number world object place v)
-shows_number heap address world object place shape v at shape_is in_numbers =
+pub shows_number : (heap : Heap) (address : ℕ) (world : World) (object base place : ℕ) (v : ℕ) → IsNumberAt heap address world object base place → Shows heap.types.now heap.half (set heap.words.items address v) heap.used heap.registers (with_number world object place v)
+shows_number heap address world object base place v at =
     let shown = at.shown in
     let old = object_at world.graph object in
     let shaped : IsShaped heap.types.now old = All-get_or (IsShaped heap.types.now) world.graph object common_object at.in_graph shown.shaped in
-    let numbers : length old.numbers ≡ shape.numbers = rw shape_is shaped.numbers in
-    let slots : length old.slots ≡ shape.slots = rw shape_is shaped.slots in
     let new : Object = record old { numbers = set old.numbers place v } in
     let size : object_size new ≡ object_size old = omega (arith, length-set old.numbers place v) in
-    let write = objects_write world.graph object (2 + length old.slots + place) v new heap.words.items (replicate (18 + heap.half - heap.used) 0) shown.laid_out at.in_graph (omega arith) (number_write old place v) in
+    let write = objects_write world.graph object (2 + length old.slots + place) v new heap.words.items (replicate (18 + heap.half - heap.used) 0) shown.laid_out at.in_graph (omega (arith, at.in_numbers)) (number_write old place v) in
     let total : sum_by object_size (set world.graph object new) ≡ sum_by object_size world.graph = omega (arith, sum_by-set object_size world.graph object new common_object at.in_graph) in
     let made : made_words (set world.graph object new) 0 ≡ made_words world.graph 0 = sum_by-filter-set object_size (is_made_by 0) world.graph object new common_object size refl in
     record {
-      laid_out = rw (at.found, ← slots) write;
+      laid_out = rw at.found write;
       counted = shown.counted ∙ sym total;
       made = rw made shown.made;
       within = shown.within;

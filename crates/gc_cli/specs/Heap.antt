@@ -1,12 +1,12 @@
 -- How the words of the heap show a world. Nothing is collected yet: the objects stand one behind another in
 -- the order in which they were made, the common object first, and all behind them is 0.
-use Rattle.std.specs.Prelude.{◌≡◌, ℕ, ◌+◌, ◌-◌, ◌<◌, ◌≤◌, List, [], ◌∷◌, ◌++◌, length, take, replicate, flat_map, sum_by, slice_index, All, Option, None, Some, Bool, false}
+use Rattle.std.specs.Prelude.{◌≡◌, ℕ, ◌+◌, ◌-◌, ◌<◌, ◌≤◌, List, ◌∷◌, ◌++◌, length, take, replicate, flat_map, sum_by, slice_index, All, Option, None, Some, false}
 use Rattle.gc_layout.specs.declared.head.Head.{Head}
 use Rattle.gc_layout.specs.declared.shape.Shape.{Shape}
 use Rattle.gc_layout.specs.Head.{head_word}
 use Rattle.gc_model.specs.declared.call.Call.{Call}
 use Rattle.gc_model.specs.Answer.{Answer, shape_at}
-use Rattle.gc_model.specs.Graph.{Object, Graph, object_size, made_words}
+use Rattle.gc_model.specs.Graph.{Object, Graph, object_at, object_size, made_words}
 use Rattle.gc_model.specs.Interim.{answer_to}
 use Rattle.gc_model.specs.World.{World, mutator_at, named_by, is_blocked}
 use Rattle.gc_cli.specs.declared.heap.Heap.{Heap}
@@ -31,7 +31,7 @@ pub record IsShaped (types : List Shape) (object : Object) : Type 0 where
   pub numbers : length object.numbers ≡ (shape_at types object.ty).numbers
 
 -- the words, of which so many are used, and the registers of the only mutator show the world, in a heap that
--- has room for the common object's 18 words and for a half
+-- has room for the common object's 18 words and for a half, and whose types' numbers fit a header
 pub record Shows (types : List Shape) (half : ℕ) (words : List ℕ) (used : ℕ) (registers : List ℕ) (world : World) : Type 0 where
   pub laid_out : words ≡ 0 ∷ flat_map object_words world.graph ++ replicate (18 + half - used) 0
   pub counted : used ≡ sum_by object_size world.graph
@@ -58,3 +58,11 @@ pub record IsObjectAt (heap : Heap) (address : ℕ) (world : World) (object : �
   pub shown : ShowsWorld heap world
   pub in_graph : object < length world.graph
   pub found : address ≡ address_of world.graph (Some object)
+
+-- in a world that the heap shows, the register names the object, and its number at this place has this address
+pub record IsNumberAt (heap : Heap) (address : ℕ) (world : World) (object base place : ℕ) : Type 0 where
+  pub shown : ShowsWorld heap world
+  pub named : named_by world 0 base ≡ Some object
+  pub in_graph : object < length world.graph
+  pub in_numbers : place < length (object_at world.graph object).numbers
+  pub found : address ≡ address_of world.graph (Some object) + (2 + length (object_at world.graph object).slots + place)

@@ -1,10 +1,10 @@
-ghost use Rattle.std.specs.Prelude.{◌≡◌, ◌+◌, ◌<◌, ◌≤◌, ◌^◌, ℕ, length, Some, true, vec_len, IfOk};
-ghost use Rattle.gc_model.specs.Answer.{Suits, shape_at};
+ghost use Rattle.std.specs.Prelude.{◌≡◌, ◌+◌, ◌<◌, ◌≤◌, ◌^◌, ℕ, length, IfOk, IfErr};
+ghost use Rattle.gc_model.specs.Answer.{Suits, shape_at, keeps};
 ghost use Rattle.gc_model.specs.Graph.{object_at};
 ghost use Rattle.gc_model.specs.Interim.{IsBuilt, answer_to};
 ghost use Rattle.gc_model.specs.World.{World, first_world};
 ghost use Rattle.gc_model.specs.declared.call.Call.TheVariants.{New, Ask, Set};
-ghost use Rattle.gc_cli.specs.Heap.{ShowsWorld, IsObjectAt, answer_of, fresh_head};
+ghost use Rattle.gc_cli.specs.Heap.{ShowsWorld, IsObjectAt, IsNumberAt, answer_of, fresh_head};
 ghost use Rattle.gc_layout.specs.Head.{head_word};
 
 use gc_layout::{Head, NoMemory, Shape, TypeNo, Types};
@@ -39,6 +39,7 @@ impl<'a> Heap<'a> {
             return Err(NoMemory);
         };
         words[1] = fresh_head(TypeNo(0));
+        // The count says that type 0 is the common object's.
         let _count = types.count();
         Ok(Heap {
             types,
@@ -75,6 +76,7 @@ impl<'a> Heap<'a> {
         }
     }
 
+    /// Makes an object behind all others.
     fn make_object(&mut self, into: Reg, ty: TypeNo) -> Reply
         requires shown { (world : World) × ShowsWorld self.old world }
         requires known { ty.0 < length self.old.types.now }
@@ -96,25 +98,21 @@ impl<'a> Heap<'a> {
         Reply::Done
     }
 
+    /// Reads a number.
     fn ask(&self, base: Reg, place: u8) -> Reply
-        requires shown { (world : World) × ShowsWorld self.now world }
+        requires { (world : World) × ShowsWorld self.now world }
         ensures { (world : World) → ShowsWorld self.now world
-            → answer_of self.now world (Ask base place)
-            ≡ record { world = world; reply = result } }
+            → answer_of self.now world (Ask base place) ≡ keeps world result }
     {
-        let address = self.registers[usize::from(base.index())] as usize;
-        if address == 0 {
-            return Reply::NilBase;
+        match self.find_number(base, place) {
+            Ok(address) => Reply::Number(self.words[address]),
+            Err(refusal) => refusal,
         }
-        let shape = self.shape_at(address);
-        if place >= shape.numbers {
-            return Reply::Range;
-        }
-        Reply::Number(self.words[number_address(address, shape, place)])
     }
 
+    /// Writes a number.
     fn set(&mut self, base: Reg, place: u8, number: u64) -> Reply
-        requires shown { (world : World) × ShowsWorld self.old world }
+        requires { (world : World) × ShowsWorld self.old world }
         ensures types { self.new.types ≡ self.old.types }
         ensures half { self.new.half ≡ self.old.half }
         ensures reply { (world : World) → ShowsWorld self.old world
@@ -122,17 +120,34 @@ impl<'a> Heap<'a> {
         ensures world { (world : World) → ShowsWorld self.old world
             → ShowsWorld self.new (answer_of self.old world (Set base place number)).world }
     {
+        match self.find_number(base, place) {
+            Ok(address) => {
+                self.words[address] = number;
+                Reply::Done
+            }
+            Err(refusal) => refusal,
+        }
+    }
+
+    /// The address of a number of the object that a register names, or the refusal of an Ask and a Set.
+    fn find_number(&self, base: Reg, place: u8) -> Result<usize, Reply>
+        requires { (world : World) × ShowsWorld self.now world }
+        ensures found { IfOk result (λ address. (world : World) → ShowsWorld self.now world
+            → (object : ℕ) × IsNumberAt self.now address world object base place) }
+        ensures ask { IfErr result (λ refusal. (world : World) → ShowsWorld self.now world
+            → answer_of self.now world (Ask base place) ≡ keeps world refusal) }
+        ensures set { IfErr result (λ refusal. (world : World) (number : ℕ) → ShowsWorld self.now world
+            → answer_of self.now world (Set base place number) ≡ keeps world refusal) }
+    {
         let address = self.registers[usize::from(base.index())] as usize;
         if address == 0 {
-            return Reply::NilBase;
+            return Err(Reply::NilBase);
         }
         let shape = self.shape_at(address);
         if place >= shape.numbers {
-            return Reply::Range;
+            return Err(Reply::Range);
         }
-        let at = number_address(address, shape, place);
-        self.words[at] = number;
-        Reply::Done
+        Ok(number_address(address, shape, place))
     }
 
     /// The shape of the object whose header word has this address.
@@ -146,7 +161,7 @@ impl<'a> Heap<'a> {
     }
 }
 
-/// The address of a number field.
+/// The address of a number in the object whose header word has this address.
 fn number_address(address: usize, shape: Shape, place: u8) -> usize
     requires { address < 2 ^ 63 }
     ensures { result ≡ address + (2 + shape.slots + place) }

@@ -1,6 +1,5 @@
-use Rattle.std.proofs.Common.{arith, rules, ◌≡◌, ◌<◌, ◌≤◌, ◌+◌, ℕ, length, get_or, set, sym, ap, subst, ◌∙◌}
+use Rattle.std.proofs.Common.{arith, rules, ◌<◌, ◌≤◌, ◌+◌, sym, ap, subst, ◌∙◌}
 use Rattle.std.proofs.lemmas.Option.{get_or_from_slice_get}
-use Rattle.std.proofs.lemmas.Grind.{common_steps}
 use Rattle.gc_layout.specs.Shape.{common_shape, size_of}
 use Rattle.gc_model.specs.World.{World}
 use Rattle.gc_model.specs.Graph.{made_words}

@@ -1,10 +1,10 @@
-use Rattle.std.proofs.Common.{rules, arith, ◌≡◌, ◌<◌, ◌≤◌, ℕ, length, sym, ap, ◌∙◌}
+use Rattle.std.proofs.Common.{rules, arith, ◌≡◌, ◌<◌, length, sym, ◌∙◌}
 use Rattle.std.proofs.lemmas.Option.{same_Some, get_or_from_slice_get}
 use Rattle.std.proofs.lemmas.Grind.{common_steps}
 use Rattle.gc_layout.specs.Shape.{common_shape}
 use Rattle.gc_layout.specs.declared.head.Head.{Head}
 use Rattle.gc_model.specs.Graph.{object_at}
-use Rattle.gc_cli.specs.Heap.{IsObjectAt, Shows, fresh_head}
+use Rattle.gc_cli.specs.Heap.{fresh_head}
 use Rattle.gc_cli.proofs.HeapWorld.{header_at}
 use Rattle.gc_cli.proofs.heap.Heap.shape_at.Goals as goal
 
