@@ -1,0 +1,129 @@
+use gc_cli::moar_gc;
+use gc_io::{MemorySink, MemorySource, OpenGate};
+use std::process::Abort;
+use std::test::Fail;
+
+/// The words of most rows.
+const PLAY: &[&str] = &["play"];
+
+/// A worked row: what is handed to the top call, and what comes of it.
+#[derive(Clone, Copy)]
+pub struct Row {
+    name: &'static str,
+    words: &'static [&'static str],
+    script: &'static str,
+    /// The most bytes that a call of the source gives.
+    step: usize,
+    /// The calls of the source and of the output that fail, counted from 1.
+    failing_reads: &'static [u32],
+    failing_writes: &'static [u32],
+    output: &'static str,
+    error: &'static str,
+    status: u8,
+}
+
+impl Row {
+    /// A script that is played to its end.
+    pub fn plays(name: &'static str, script: &'static str, output: &'static str) -> Row {
+        Row {
+            name,
+            words: PLAY,
+            script,
+            step: 65_536,
+            failing_reads: &[],
+            failing_writes: &[],
+            output,
+            error: "",
+            status: 0,
+        }
+    }
+
+    /// A script that is refused.
+    pub fn refuses(name: &'static str, script: &'static str, error: &'static str) -> Row {
+        Row {
+            error,
+            status: 2,
+            ..Row::plays(name, script, "")
+        }
+    }
+
+    /// Words that are no command. The source would fail if it were asked.
+    pub fn misuses(
+        name: &'static str,
+        words: &'static [&'static str],
+        script: &'static str,
+    ) -> Row {
+        Row {
+            words,
+            failing_reads: &[1],
+            error: "moar_gc: usage\n",
+            status: 1,
+            ..Row::plays(name, script, "")
+        }
+    }
+
+    /// The same script from a source that gives so many bytes a call and fails at these calls.
+    pub fn with_reads(self, step: usize, failing_reads: &'static [u32]) -> Row {
+        Row {
+            step,
+            failing_reads,
+            ..self
+        }
+    }
+
+    /// The same script, where these writes fail.
+    pub fn with_writes(self, failing_writes: &'static [u32]) -> Row {
+        Row {
+            failing_writes,
+            ..self
+        }
+    }
+
+    /// The same script, which ends so.
+    pub fn ends(self, output: &'static str, error: &'static str, status: u8) -> Row {
+        Row {
+            output,
+            error,
+            status,
+            ..self
+        }
+    }
+
+    /// Hands the row to the top call, and compares what comes of it.
+    pub fn check<R: Abort + AllocGlobal>(&self, rt: &R) -> Result<(), Fail> {
+        let alloc = rt.alloc();
+        let mut words = Vec::new(alloc);
+        for word in self.words {
+            words.push(word.to_string(alloc)?)?;
+        }
+        assert!(rt; self.step > 0, "the step of {}", self.name);
+        let script = self.script.as_bytes().to_vec(alloc)?;
+        let mut src = MemorySource::make(script, self.step, self.failing_reads.to_vec(alloc)?);
+        let mut out = MemorySink::make(alloc, 65_536, self.failing_writes.to_vec(alloc)?)?;
+        let mut err = MemorySink::make(alloc, 256, Vec::new(alloc))?;
+        let outcome = moar_gc(
+            rt,
+            alloc,
+            words.as_slice(),
+            &mut src,
+            &mut out,
+            &mut err,
+            &OpenGate,
+        );
+        let code = outcome.status.code();
+        assert_eq!(rt; code, self.status, "the status of {}", self.name);
+        assert_eq!(rt;
+            out.bytes(),
+            self.output.as_bytes(),
+            "the output of {}",
+            self.name
+        );
+        assert_eq!(rt;
+            err.bytes(),
+            self.error.as_bytes(),
+            "the error of {}",
+            self.name
+        );
+        Ok(())
+    }
+}
