@@ -1,5 +1,5 @@
-use gc_cli::moar_gc;
-use gc_io::{MemorySink, MemorySource, OpenGate};
+use crate::run_in_memory;
+use gc_io::{MemorySink, MemorySource};
 use std::process::Abort;
 use std::test::Fail;
 
@@ -101,15 +101,7 @@ impl Row {
         let mut src = MemorySource::make(script, self.step, self.failing_reads.to_vec(alloc)?);
         let mut out = MemorySink::make(alloc, 65_536, self.failing_writes.to_vec(alloc)?)?;
         let mut err = MemorySink::make(alloc, 256, Vec::new(alloc))?;
-        let outcome = moar_gc(
-            rt,
-            alloc,
-            words.as_slice(),
-            &mut src,
-            &mut out,
-            &mut err,
-            &OpenGate,
-        );
+        let outcome = run_in_memory(rt, alloc, words.as_slice(), &mut src, &mut out, &mut err);
         let code = outcome.status.code();
         assert_eq!(rt; code, self.status, "the status of {}", self.name);
         assert_eq!(rt;

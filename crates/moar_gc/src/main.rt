@@ -4,6 +4,9 @@
 //! still buffered, and ends with the status. Standard output is written in pieces of 64 KiB.
 #![tactic(auto)]
 
+ghost use Rattle.std.specs.Prelude.{◌≡◌, None, map, string_bytes};
+ghost use Rattle.gc_cli.specs.Command.{request_of};
+
 use gc_cli::{Status, moar_gc, write_status};
 use gc_io::{OpenGate, Put, Sink, StdSink, StdSource};
 use std::alloc::{AllocError, Global};
@@ -39,7 +42,9 @@ fn words(rt: &HostRuntime) -> Result<Vec<String>, Status> {
 }
 
 /// Calls the top call over the standard streams. A last flush that fails is a write fault.
-fn run<E: Sink>(rt: &HostRuntime, words: &[String], err: &mut E) -> Status {
+fn run<E: Sink>(rt: &HostRuntime, words: &[String], err: &mut E) -> Status
+    ensures { result ≡ Status.Usage → request_of (map string_bytes words.now) ≡ None }
+{
     let mut src = StdSource::make(rt.stdin());
     let Ok(writer) = BufWriter::with_capacity(rt.alloc(), BUFFER, rt.stdout()) else {
         write_status(Status::NoMemory, err);

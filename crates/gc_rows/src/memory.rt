@@ -1,0 +1,29 @@
+ghost use Rattle.std.specs.Prelude.{◌≡◌, ℕ, ◌++◌};
+ghost use Rattle.gc_script.specs.Cut.{IsCutScript};
+ghost use Rattle.gc_script.specs.Script.{Script};
+ghost use Rattle.gc_cli.specs.Played.{graph_replies, default_half};
+ghost use Rattle.gc_cli.specs.Text.{text_of};
+
+use gc_cli::{Outcome, Status, moar_gc};
+use gc_io::{MemorySink, MemorySource, OpenGate};
+use std::alloc::Global;
+
+/// The top call over a source and sinks in memory.
+pub fn run_in_memory<R>(
+    rt: &R,
+    alloc: Global,
+    words: &[String],
+    src: &mut MemorySource,
+    out: &mut MemorySink,
+    err: &mut MemorySink,
+) -> Outcome
+    // Where it is done, all that the source had is a script, and the output has got the graph's replies.
+    ensures done { result.status ≡ Status.Done
+        → ((script : Script) × IsCutScript src.old.rest script
+        × (out.new.written ≡ out.old.written ++ text_of script (graph_replies default_half script))) }
+    // A script is refused only where all that the source had is none.
+    ensures bad { (line cause : ℕ) → result.status ≡ Status.Bad line cause
+        → (script : Script) → ¬ IsCutScript src.old.rest script }
+{
+    moar_gc(rt, alloc, words, src, out, err, &OpenGate)
+}
