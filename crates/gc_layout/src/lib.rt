@@ -3,7 +3,7 @@
 //! Every object is a header word, a forwarding word, its slots and then its number fields, so its size
 //! in words follows from its type's shape alone. The table of types holds the shapes by type number, and
 //! type 0 is the common object's. A header word packs the type number and four flags of the collector.
-//! All other crates stand on this one, and it stands on nothing.
+//! The graph and all heaps stand on this crate, and it stands on nothing.
 #![tactic(auto)]
 
 mod head;

@@ -127,6 +127,27 @@ fn faults_are_told(rt: HostRuntime) -> Result<(), Fail> {
 }
 
 #[test]
+fn a_full_half_is_told(rt: HostRuntime) -> Result<(), Fail> {
+    let alloc = rt.alloc();
+    let script =
+        b"moar-gc 1\nmutators 1\ntype wide 61 0\ntype none 0 0\n0 new r0 wide\n0 new r1 none\n0 new r1 wide\n0 ask r1 0\n";
+    let mut src = SteadySource::make(script.to_vec(alloc)?);
+    let mut out = MemorySink::make(alloc, 64, Vec::new(alloc))?;
+    let smallest = Opts {
+        nursery: 64,
+        ..Opts::DEFAULT
+    };
+    let outcome = play_bytes(alloc, &smallest, &mut src, &mut out);
+    assert_eq!(rt; outcome.status, Status::Done);
+    // The wide object takes 63 of the half's 64 words, so nothing else fits.
+    assert_eq!(rt;
+        out.bytes(),
+        b"5 done\n6 full\n7 full\n8 nil base\n".as_slice()
+    );
+    Ok(())
+}
+
+#[test]
 fn a_script_that_is_too_long_is_told(rt: HostRuntime) -> Result<(), Fail> {
     let alloc = rt.alloc();
     let mut src = SteadySource::make(vec![in alloc; b'a'; 16_777_217]?);

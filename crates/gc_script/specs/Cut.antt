@@ -14,7 +14,7 @@ AreBuilt lines = All (λ line. IsBuilt line.call) lines
 -- one mutator, and no call words but `new`, `set` and `ask`
 pub record IsCut (script : Script) : Type 0 where
   pub alone : script.preamble.mutators ≡ 1
-  pub built : All (λ line. IsBuilt line.call) script.lines
+  pub built : AreBuilt script.lines
 
 -- the cut grammar: the text is this script, and the script can be played so far
 abbrev pub IsCutScript : List ℕ → Script → Type 0

@@ -45,6 +45,7 @@ impl Preamble {
         ensures few { length result.now < 256 }
         ensures types { length result.now + 1 ≡ length self.now.types }
     {
+        // The count says that there are at most 256 types.
         let _count = self.types.count();
         self.names.as_slice()
     }
