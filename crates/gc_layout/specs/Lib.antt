@@ -1,3 +1,4 @@
 pub mod Head
+pub mod Places
 pub mod Shape
 pub mod Types

@@ -1,4 +1,4 @@
-use crate::{AddFault, Head, Shape, TypeNo, Types};
+use crate::{AddFault, Head, Part, Places, Shape, TypeNo, Types};
 use std::test::Fail;
 
 /// The shape of objects with so many slots and number fields.
@@ -15,6 +15,16 @@ fn plain(ty: u8) -> Head {
         remembered: false,
         marked: false,
     }
+}
+
+/// A word of half 0 or 1.
+fn half(half: u8, offset: u32) -> Part {
+    Part::Half { half, offset }
+}
+
+/// A word of a page.
+fn page(page: u16, offset: u32) -> Part {
+    Part::Page { page, offset }
 }
 
 #[test]
@@ -64,4 +74,62 @@ fn other_words_are_no_headers(rt: HostRuntime) {
     for word in [0, 8192, 4096 + 8192] {
         assert_eq!(rt; Head::of_word(word), None, "at {word}");
     }
+}
+
+#[test]
+fn each_address_has_one_owner_and_one_part(rt: HostRuntime) -> Result<(), Fail> {
+    let places = Places::make(2, 64, 1).ok_or("no places")?;
+    assert_eq!(rt; places.words(), 2336);
+    for (address, owner, part) in [
+        (1, 0, Part::Root { reg: 0 }),
+        (16, 0, Part::Root { reg: 15 }),
+        (17, 0, half(0, 0)),
+        (144, 0, half(1, 63)),
+        (145, 0, page(0, 0)),
+        (1168, 0, page(0, 1023)),
+        (1169, 1, Part::Root { reg: 0 }),
+        (1185, 1, half(0, 0)),
+        (1249, 1, half(1, 0)),
+        (2336, 1, page(0, 1023)),
+    ] {
+        assert_eq!(rt; places.owner(address), Some(owner), "at {address}");
+        assert_eq!(rt; places.part(address), Some(part), "at {address}");
+    }
+    for address in [0, 2337, u64::MAX] {
+        assert_eq!(rt; places.owner(address), None, "at {address}");
+        assert_eq!(rt; places.part(address), None, "at {address}");
+    }
+    Ok(())
+}
+
+#[test]
+fn each_part_begins_at_its_address(rt: HostRuntime) -> Result<(), Fail> {
+    let places = Places::make(8, 65_536, 128).ok_or("no places")?;
+    assert_eq!(rt; places.words(), 2_097_280);
+    assert_eq!(rt; places.root(0), 1);
+    assert_eq!(rt; places.root(7), 1_835_121);
+    assert_eq!(rt; places.half_start(7, 1), 1_900_673);
+    assert_eq!(rt; places.page_start(7, 127), 2_096_257);
+    Ok(())
+}
+
+#[test]
+fn the_limits_themselves_are_let_in(rt: HostRuntime) -> Result<(), Fail> {
+    for (mutators, nursery, pages) in [(1, 64, 1), (8, 65_536, 128)] {
+        let places = Places::make(mutators, nursery, pages).ok_or("no places")?;
+        assert_eq!(rt; places.mutators(), mutators);
+        assert_eq!(rt; places.nursery(), nursery);
+        assert_eq!(rt; places.pages(), pages);
+    }
+    for (mutators, nursery, pages) in [
+        (0, 64, 1),
+        (9, 64, 1),
+        (1, 63, 1),
+        (1, 65_537, 1),
+        (1, 64, 0),
+        (1, 64, 129),
+    ] {
+        assert_eq!(rt; Places::make(mutators, nursery, pages), None);
+    }
+    Ok(())
 }
