@@ -1,4 +1,4 @@
-ghost use Rattle.std.specs.Prelude.{◌≡◌, ℕ, ◌<◌, ◌≤◌, ◌↔◌, ◌⊎◌, Some, IfSome, IsNone, IsTrue};
+ghost use Rattle.std.specs.Prelude.{◌≡◌, ℕ, ◌<◌, ◌≤◌, ◌↔◌, ◌⊎◌, Some, IfSome, IsNone};
 ghost use Rattle.gc_layout.specs.declared.places.Part.{Part};
 ghost use Rattle.gc_layout.specs.Places.{IsWithinLimits, region_words, word_count, region_start, words_before, address_of, IsInside, owner_of};
 
