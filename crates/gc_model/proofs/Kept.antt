@@ -65,7 +65,7 @@ loads-keeps world t into None = same world
 loads-keeps world t into (Some number) = with_mutator-keeps world t _
 
 -- each of the calls keeps the objects
-effect-keeps : (types : List Shape) (world : World) (t : ℕ) (room : Bool) (call : Call) → KeepsObjects world (effect types world t room call).world
+pub effect-keeps : (types : List Shape) (world : World) (t : ℕ) (room : Bool) (call : Call) → KeepsObjects world (effect types world t room call).world
 effect-keeps types world t room (New into ty) = choice-keeps world room _ _ (with_object-keeps world _ t into _) (same world)
 effect-keeps types world t room (Get into base place) =
     at_base-keeps world _ _ (λ number. within-keeps world place _ _ (loads-keeps world t into _))

@@ -1,6 +1,6 @@
 -- After every history each register and each slot names an object that is there, or nothing.
-use Rattle.std.proofs.Common.{◌≡◌, ◌∙◌, ℕ, ◌<◌, ◌≤◌, Bool, true, false, Option, None, Some, List, [], ◌∷◌, ◌++◌, All, IfSome, if◌then◌else◌, not, ◌&&◌, length, length-set, length-append, fold, inl, inr, refl, sym, subst, arith, lit<, slice_index_or, slice_set}
-use Rattle.std.proofs.Math.ListN.{get_or-eq_default}
+use Rattle.std.proofs.Common.{◌≡◌, ◌∙◌, ℕ, ◌<◌, ◌≤◌, Bool, true, false, Option, None, Some, List, [], ◌∷◌, ◌++◌, All, IfSome, if◌then◌else◌, not, ◌&&◌, length, length-set, length-append, fold, inl, inr, refl, ap, sym, subst, arith, lit<, slice_index_or, slice_set}
+use Rattle.std.proofs.Math.ListN.{get_or-eq_default, get_or-append}
 use Rattle.std.proofs.lemmas.Bool.{cases_lt}
 use Rattle.std.proofs.lemmas.List.Elements.{All-set, All-append, All-replicate}
 use Rattle.gc_layout.specs.declared.shape.Shape.{Shape}
@@ -14,6 +14,7 @@ use Rattle.gc_model.specs.World.{World, Mutator, first_world, fresh_mutator, mut
 use Rattle.gc_model.specs.Answer.{Answer, at_base, within, loads, keeps, effect, answer, shape_at, suits_blocked, wants_blocked}
 use Rattle.gc_model.specs.History.{Configuration, History, is_done, world_after_entry, world_after}
 use Rattle.gc_model.specs.Laws.{AreThere, IsSound}
+use Rattle.gc_model.specs.Plain.{IsKept}
 
 -- it names one of so many objects, or nothing
 abbrev IsThere : ℕ → Option ℕ → Type 0
@@ -109,6 +110,15 @@ with_object-sound world sound ty maker shape =
       slots = All-append (λ each. AreThere more each.slots) world.graph (object ∷ [])
           (λ k d below. all_there-more count more at_most _ (sound.slots k d below))
           (All-replicate (λ each. AreThere more each.slots) 1 object (All-replicate (IsThere more) shape.slots None tt));
+    }
+
+-- a new object leaves the common one as it is
+pub with_object-kept : (world : World) → IsKept world → (ty : ℕ) (maker : Option ℕ) (shape : Shape) → IsKept (with_object world (fresh_object ty maker shape))
+with_object-kept world kept ty maker shape =
+    let object = fresh_object ty maker shape in
+    record {
+      sound = with_object-sound world kept.sound ty maker shape;
+      common_slots = ap (λ (common : Object). length common.slots) (get_or-append world.graph (object ∷ []) common_object 0 kept.sound.common) ∙ kept.common_slots;
     }
 
 -- a register comes to name the new object

@@ -1,15 +1,15 @@
-ghost use Rattle.std.specs.Prelude.{◌≡◌, ◌<◌, ◌∷◌, [], IfOk};
+ghost use Rattle.std.specs.Prelude.{◌≡◌, ◌+◌, ◌<◌, ◌≤◌, ◌∷◌, [], length, IfOk};
 ghost use Rattle.gc_layout.specs.Shape.{common_shape};
+ghost use Rattle.gc_model.specs.Answer.{IsFit};
 ghost use Rattle.gc_model.specs.World.{first_world};
-ghost use Rattle.gc_model.specs.declared.call.Call.TheVariants.{New};
 
 use crate::{Call, Reg, Reply, World};
 use gc_layout::{NoMemory, Shape, TypeNo, Types};
 use std::alloc::Global;
 use std::test::Fail;
 
-/// The type of boxes, which have no slot and one number.
-const BOX: TypeNo = TypeNo(1);
+/// The type that a test adds.
+const ADDED: TypeNo = TypeNo(1);
 
 /// The register of a number.
 fn reg(number: u8) -> Reg
@@ -22,18 +22,25 @@ fn reg(number: u8) -> Reg
     }
 }
 
-/// The first world of one mutator, with boxes.
-fn world_with_boxes(alloc: Global) -> Result<World, NoMemory>
-    ensures { IfOk result (λ made. made ≡ record { types = common_shape ∷ record { slots = 0; numbers = 1 } ∷ []; world = first_world 1 }) }
+/// The first world of one mutator, with a type of so many slots and numbers.
+fn world_with(alloc: Global, slots: u8, numbers: u8) -> Result<World, NoMemory>
+    requires { slots + numbers ≤ 62 }
+    ensures { IfOk result (λ made. made ≡ record { types = common_shape ∷ record { slots = slots; numbers = numbers } ∷ []; world = first_world 1 }) }
 {
     let mut types = Types::make(alloc)?;
-    match types.add(Shape {
-        slots: 0,
-        numbers: 1,
-    }) {
+    match types.add(Shape { slots, numbers }) {
         Ok(_) => World::make(alloc, &types, 1),
         Err(_) => unreachable!(),
     }
+}
+
+/// What mutator 0 is answered where there is room.
+fn answer(world: &mut World, alloc: Global, call: Call) -> Result<Reply, NoMemory>
+    requires { IsFit world.old.types (length world.old.world.mutators) 0 call }
+    ensures types { world.new.types ≡ world.old.types }
+    ensures mutators { length world.new.world.mutators ≡ length world.old.world.mutators }
+{
+    world.answer(alloc, 0, &call, true)
 }
 
 #[test]
@@ -45,14 +52,14 @@ fn registers_are_numbered_from_0_to_15(rt: HostRuntime) {
 #[test]
 fn a_number_that_was_set_is_asked_for(rt: HostRuntime) -> Result<(), Fail> {
     let alloc = rt.alloc();
-    let mut world = world_with_boxes(alloc)?;
+    let mut world = world_with(alloc, 0, 1)?;
     let into = reg(0);
     let ask = Call::Ask {
         base: into,
         place: 0,
     };
     assert_eq!(rt;
-        world.answer(alloc, 0, &Call::New { into, ty: BOX }, true)?,
+        world.answer(alloc, 0, &Call::New { into, ty: ADDED }, true)?,
         Reply::Done
     );
     assert_eq!(rt; world.answer(alloc, 0, &ask, true)?, Reply::Number(0));
@@ -72,7 +79,7 @@ fn a_number_that_was_set_is_asked_for(rt: HostRuntime) -> Result<(), Fail> {
 #[test]
 fn refusals_come_in_their_order(rt: HostRuntime) -> Result<(), Fail> {
     let alloc = rt.alloc();
-    let mut world = world_with_boxes(alloc)?;
+    let mut world = world_with(alloc, 0, 1)?;
     let base = reg(15);
     let beyond = Call::Ask { base, place: 1 };
     let set_beyond = Call::Set {
@@ -82,7 +89,7 @@ fn refusals_come_in_their_order(rt: HostRuntime) -> Result<(), Fail> {
     };
     let new = Call::New {
         into: base,
-        ty: BOX,
+        ty: ADDED,
     };
     assert_eq!(rt; world.answer(alloc, 0, &new, false)?, Reply::Full);
     assert_eq!(rt; world.answer(alloc, 0, &beyond, true)?, Reply::NilBase);
@@ -90,5 +97,125 @@ fn refusals_come_in_their_order(rt: HostRuntime) -> Result<(), Fail> {
     assert_eq!(rt; world.answer(alloc, 0, &new, true)?, Reply::Done);
     assert_eq!(rt; world.answer(alloc, 0, &beyond, true)?, Reply::Range);
     assert_eq!(rt; world.answer(alloc, 0, &set_beyond, true)?, Reply::Range);
+    Ok(())
+}
+
+#[test]
+fn what_was_put_into_a_slot_is_loaded(rt: HostRuntime) -> Result<(), Fail> {
+    let alloc = rt.alloc();
+    let mut world = world_with(alloc, 2, 1)?;
+    let (base, into) = (reg(0), reg(1));
+    let get = Call::Get {
+        into,
+        base,
+        place: 1,
+    };
+    let get_beyond = Call::Get {
+        into,
+        base,
+        place: 2,
+    };
+    let put = Call::Put {
+        base,
+        place: 1,
+        value: base,
+    };
+    let same = Call::Same {
+        left: base,
+        right: into,
+    };
+    let clear = Call::ClearReg { reg: base };
+    let new = Call::New {
+        into: base,
+        ty: ADDED,
+    };
+    assert_eq!(rt; answer(&mut world, alloc, new)?, Reply::Done);
+    assert_eq!(rt; answer(&mut world, alloc, get_beyond)?, Reply::Range);
+    assert_eq!(rt; answer(&mut world, alloc, get)?, Reply::Nil);
+    assert_eq!(rt; answer(&mut world, alloc, same)?, Reply::No);
+    assert_eq!(rt; answer(&mut world, alloc, put)?, Reply::Done);
+    assert_eq!(rt; answer(&mut world, alloc, get)?, Reply::Done);
+    assert_eq!(rt; answer(&mut world, alloc, same)?, Reply::Yes);
+    assert_eq!(rt; answer(&mut world, alloc, clear)?, Reply::Done);
+    assert_eq!(rt; answer(&mut world, alloc, put)?, Reply::NilBase);
+    Ok(())
+}
+
+#[test]
+fn only_the_expected_number_is_swapped(rt: HostRuntime) -> Result<(), Fail> {
+    let alloc = rt.alloc();
+    let mut world = world_with(alloc, 2, 1)?;
+    let base = reg(0);
+    let new = Call::New {
+        into: base,
+        ty: ADDED,
+    };
+    let swap_five = Call::SwapIf {
+        base,
+        place: 0,
+        expected: 5,
+        replacement: 6,
+    };
+    let swap_zero = Call::SwapIf {
+        base,
+        place: 0,
+        expected: 0,
+        replacement: 6,
+    };
+    assert_eq!(rt; answer(&mut world, alloc, new)?, Reply::Done);
+    assert_eq!(rt; answer(&mut world, alloc, swap_five)?, Reply::Found(0));
+    assert_eq!(rt; answer(&mut world, alloc, swap_zero)?, Reply::Yes);
+    assert_eq!(rt; answer(&mut world, alloc, swap_zero)?, Reply::Found(6));
+    Ok(())
+}
+
+#[test]
+fn a_blocked_mutator_may_only_unblock_or_end(rt: HostRuntime) -> Result<(), Fail> {
+    let alloc = rt.alloc();
+    let mut world = world_with(alloc, 2, 1)?;
+    let base = reg(0);
+    let new = Call::New {
+        into: base,
+        ty: ADDED,
+    };
+    let ask = Call::Ask { base, place: 0 };
+    assert_eq!(rt; answer(&mut world, alloc, new)?, Reply::Done);
+    assert_eq!(rt;
+        answer(&mut world, alloc, Call::Unblock)?,
+        Reply::NotBlocked
+    );
+    assert_eq!(rt; answer(&mut world, alloc, Call::Block)?, Reply::Done);
+    assert_eq!(rt; answer(&mut world, alloc, ask)?, Reply::Blocked);
+    assert_eq!(rt; answer(&mut world, alloc, Call::Unblock)?, Reply::Done);
+    assert_eq!(rt; answer(&mut world, alloc, ask)?, Reply::Number(0));
+    assert_eq!(rt; answer(&mut world, alloc, Call::End)?, Reply::Done);
+    assert_eq!(rt; answer(&mut world, alloc, Call::Safepoint)?, Reply::Blocked);
+    assert_eq!(rt; answer(&mut world, alloc, Call::Unblock)?, Reply::Done);
+    assert_eq!(rt; answer(&mut world, alloc, ask)?, Reply::NilBase);
+    Ok(())
+}
+
+#[test]
+fn what_was_shared_is_taken(rt: HostRuntime) -> Result<(), Fail> {
+    let alloc = rt.alloc();
+    let mut world = world_with(alloc, 2, 1)?;
+    let (value, into) = (reg(0), reg(1));
+    let new = Call::New {
+        into: value,
+        ty: ADDED,
+    };
+    let share = Call::Share { place: 15, value };
+    let take = Call::Take { into, place: 15 };
+    let await_another = Call::Await { into, place: 14 };
+    let same = Call::Same {
+        left: value,
+        right: into,
+    };
+    assert_eq!(rt; answer(&mut world, alloc, take)?, Reply::Nil);
+    assert_eq!(rt; answer(&mut world, alloc, new)?, Reply::Done);
+    assert_eq!(rt; answer(&mut world, alloc, share)?, Reply::Done);
+    assert_eq!(rt; answer(&mut world, alloc, take)?, Reply::Done);
+    assert_eq!(rt; answer(&mut world, alloc, same)?, Reply::Yes);
+    assert_eq!(rt; answer(&mut world, alloc, await_another)?, Reply::Nil);
     Ok(())
 }

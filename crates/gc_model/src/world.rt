@@ -1,9 +1,12 @@
-ghost use Rattle.std.specs.Prelude.{◌≡◌, ◌<◌, ◌≤◌, true, length, replicate, IfOk, OnOk, OnErr};
-ghost use Rattle.gc_model.specs.Answer.{answer, effect, IsFit};
+ghost use Rattle.std.specs.Prelude.{◌≡◌, ◌<◌, ◌≤◌, Bool, true, length, replicate, IfOk, OnOk, OnErr};
+ghost use Rattle.gc_model.specs.Answer.{answer, effect, IsFit, Suits};
 ghost use Rattle.gc_model.specs.Graph.{fresh_object};
-ghost use Rattle.gc_model.specs.Interim.{IsBuilt, IsNew};
-ghost use Rattle.gc_model.specs.World.{first_world, fresh_mutator, named_by};
-ghost use Rattle.gc_model.specs.Plain.{Plain};
+ghost use Rattle.gc_model.specs.Interim.{IsNew};
+ghost use Rattle.gc_model.specs.World.{first_world, fresh_mutator};
+ghost use Rattle.gc_model.specs.Plain.{Plain, unless_refused};
+
+mod fields;
+mod registers;
 
 use crate::{Call, Reg, Reply};
 use gc_layout::{NoMemory, Shape, TypeNo, Types};
@@ -83,11 +86,13 @@ pub struct World {
 }
 
 impl Model for World {
-    ghost use Rattle.gc_model.specs.Plain.{Plain, plain_of};
+    ghost use Rattle.gc_model.specs.Plain.{Plain, plain_of, IsKept};
 
     ghost Value = { Plain };
 
     ghost view = { λ w. plain_of w.types.items w.objects.items w.mutators.items };
+
+    ghost invariant = { λ w. IsKept (record { graph = w.objects.items; mutators = w.mutators.items }) };
 }
 
 impl World {
@@ -114,55 +119,97 @@ impl World {
         })
     }
 
-    /// What a register of a mutator names.
-    fn named(&self, t: u8, reg: Reg) -> Option<usize>
-        requires { t < length self.now.world.mutators }
-        ensures { result ≡ named_by self.now.world t reg }
-    {
-        let mutator = &self.mutators[usize::from(t)];
-        mutator.registers[usize::from(reg.index())]
-    }
-
-    fn ask(&self, t: u8, base: Reg, place: u8) -> Reply
-        requires { t < length self.now.world.mutators }
-        ensures { effect self.now.types self.now.world t true (Call.Ask base place)
-            ≡ record { world = self.now.world; reply = result } }
-    {
-        let Some(number) = self.named(t, base) else {
-            return Reply::NilBase;
-        };
-        if number >= self.objects.len() {
-            return Reply::Range;
-        }
-        let object = &self.objects[number];
-        let place = usize::from(place);
-        if place >= object.numbers.len() {
-            return Reply::Range;
-        }
-        Reply::Number(object.numbers[place])
-    }
-
-    fn set(&mut self, t: u8, base: Reg, place: u8, value: u64) -> Reply
-        requires { t < length self.old.world.mutators }
+    /// Makes the call `c` of the mutator `t`. A New that no refusal meets is Done exactly where there is
+    /// `room`. Only a New takes memory; after want of memory nothing has changed.
+    pub fn answer(&mut self, alloc: Global, t: u8, c: &Call, room: bool) -> Result<Reply, NoMemory>
+        requires fit { IsFit self.old.types (length self.old.world.mutators) t c.now }
         ensures types { self.new.types ≡ self.old.types }
-        ensures set { effect self.old.types self.old.world t true (Call.Set base place value)
+        ensures mutators { length self.new.world.mutators ≡ length self.old.world.mutators }
+        ensures reply { IfOk result (λ reply. reply ≡ (answer self.old.types self.old.world t c.now room).reply) }
+        ensures world { OnOk result (self.new.world ≡ (answer self.old.types self.old.world t c.now room).world) }
+        ensures no_memory { OnErr result (self.new ≡ self.old) }
+        ensures only_new { OnErr result (IsNew c.now) }
+        ensures only_done { OnErr result ((answer self.old.types self.old.world t c.now room).reply ≡ Reply.Done) }
+    {
+        match self.refusal(t, c) {
+            Some(refusal) => Ok(refusal),
+            None => self.make_call(alloc, t, c, room),
+        }
+    }
+
+    /// The refusal for being blocked, or for not being blocked.
+    fn refusal(&self, t: u8, c: &Call) -> Option<Reply>
+        requires mutator { t < length self.now.world.mutators }
+        ensures { (room : Bool) → answer self.now.types self.now.world t c.now room
+            ≡ unless_refused self.now.world result (effect self.now.types self.now.world t room c.now) }
+    {
+        match (self.mutators[usize::from(t)].blocked, c) {
+            (true, Call::Unblock | Call::End) => None,
+            (true, _) => Some(Reply::Blocked),
+            (false, Call::Unblock) => Some(Reply::NotBlocked),
+            (false, _) => None,
+        }
+    }
+
+    /// Makes a call that being blocked doesn't stand against.
+    fn make_call(&mut self, alloc: Global, t: u8, c: &Call, room: bool) -> Result<Reply, NoMemory>
+        requires mutator { t < length self.old.world.mutators }
+        requires suits { Suits (length self.old.types) c.now }
+        ensures types { self.new.types ≡ self.old.types }
+        ensures made { IfOk result (λ reply. effect self.old.types self.old.world t room c.now
+            ≡ record { world = self.new.world; reply = reply }) }
+        ensures mutators { length self.new.world.mutators ≡ length self.old.world.mutators }
+        ensures no_memory { OnErr result (self.new ≡ self.old) }
+        ensures only_new { OnErr result (IsNew c.now) }
+        ensures only_room { OnErr result (room ≡ true) }
+    {
+        match *c {
+            Call::New { into, ty } if room => self.make_object(alloc, t, into, ty),
+            Call::New { .. } => Ok(Reply::Full),
+            _ => Ok(self.make_small_call(t, c)),
+        }
+    }
+
+    /// Makes a call that makes no object.
+    fn make_small_call(&mut self, t: u8, c: &Call) -> Reply
+        requires mutator { t < length self.old.world.mutators }
+        requires suits { Suits (length self.old.types) c.now }
+        requires small { ¬ IsNew c.now }
+        ensures types { self.new.types ≡ self.old.types }
+        ensures made { (room : Bool) → effect self.old.types self.old.world t room c.now
             ≡ record { world = self.new.world; reply = result } }
     {
-        let Some(number) = self.named(t, base) else {
-            return Reply::NilBase;
-        };
-        if number >= self.objects.len() {
-            return Reply::Range;
+        match *c {
+            Call::Get { into, base, place } => return self.get(t, into, base, place),
+            Call::Put { base, place, value } => return self.put(t, base, place, value),
+            Call::Ask { base, place } => return self.ask(t, base, place),
+            Call::Set {
+                base,
+                place,
+                number,
+            } => return self.set(t, base, place, number),
+            Call::SwapIf {
+                base,
+                place,
+                expected,
+                replacement,
+            } => return self.swap_if(t, base, place, expected, replacement),
+            Call::Same { left, right } => return self.same(t, left, right),
+            Call::Take { into, place } => return self.take(t, into, place),
+            Call::Await { into, place } => return self.take(t, into, place),
+            Call::CopyReg { into, source } => self.name(t, into, self.named(t, source)),
+            Call::ClearReg { reg } => self.name(t, reg, None),
+            Call::Share { place, value } => self.share(t, place, value),
+            Call::Block => self.set_blocked(t, true),
+            Call::Unblock => self.set_blocked(t, false),
+            Call::End => self.end(t),
+            Call::Safepoint | Call::Collect => {}
+            Call::New { .. } => unreachable!(),
         }
-        let object = &mut self.objects[number];
-        let place = usize::from(place);
-        if place >= object.numbers.len() {
-            return Reply::Range;
-        }
-        object.numbers[place] = value;
         Reply::Done
     }
 
+    /// Makes an object, which a register comes to name.
     fn make_object(
         &mut self,
         alloc: Global,
@@ -175,6 +222,7 @@ impl World {
         ensures types { self.new.types ≡ self.old.types }
         ensures made { IfOk result (λ reply. effect self.old.types self.old.world t true (Call.New into ty)
             ≡ record { world = self.new.world; reply = reply }) }
+        ensures mutators { length self.new.world.mutators ≡ length self.old.world.mutators }
         ensures no_memory { OnErr result (self.new ≡ self.old) }
     {
         let shape = self.types[usize::from(ty.0)];
@@ -182,42 +230,11 @@ impl World {
         let Ok(object) = Object::fresh(alloc, ty, Some(t), shape) else {
             return Err(NoMemory);
         };
-        if self.objects.push(object).is_err() {
+        let Ok(()) = self.objects.push(object) else {
             return Err(NoMemory);
-        }
-        let mutator = &mut self.mutators[usize::from(t)];
-        mutator.registers[usize::from(into.index())] = Some(number);
+        };
+        self.name(t, into, Some(number));
         Ok(Reply::Done)
-    }
-
-    /// Makes the call `c` of the mutator `t`. A New that no refusal meets is Done exactly where there is
-    /// `room`. So far the call is a New, a Set or an Ask. Only a New takes memory; after want of memory
-    /// nothing has changed.
-    pub fn answer(&mut self, alloc: Global, t: u8, c: &Call, room: bool) -> Result<Reply, NoMemory>
-        requires fit { IsFit self.old.types (length self.old.world.mutators) t c.now }
-        requires built { IsBuilt c.now }
-        ensures types { self.new.types ≡ self.old.types }
-        ensures mutators { length self.new.world.mutators ≡ length self.old.world.mutators }
-        ensures reply { IfOk result (λ reply. reply ≡ (answer self.old.types self.old.world t c.now room).reply) }
-        ensures world { OnOk result (self.new.world ≡ (answer self.old.types self.old.world t c.now room).world) }
-        ensures no_memory { OnErr result (self.new ≡ self.old) }
-        ensures only_new { OnErr result (IsNew c.now) }
-        ensures only_done { OnErr result ((answer self.old.types self.old.world t c.now room).reply ≡ Reply.Done) }
-    {
-        if self.mutators[usize::from(t)].blocked {
-            return Ok(Reply::Blocked);
-        }
-        match *c {
-            Call::New { into, ty } if room => self.make_object(alloc, t, into, ty),
-            Call::New { .. } => Ok(Reply::Full),
-            Call::Ask { base, place } => Ok(self.ask(t, base, place)),
-            Call::Set {
-                base,
-                place,
-                number,
-            } => Ok(self.set(t, base, place, number)),
-            _ => unreachable!(),
-        }
     }
 }
 
