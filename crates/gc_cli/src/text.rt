@@ -1,4 +1,4 @@
-ghost use Rattle.std.specs.Prelude.{◌≡◌, [], ◌+◌, ◌≤◌, ◌++◌, length, codes, decimal};
+ghost use Rattle.std.specs.Prelude.{◌≡◌, [], ◌+◌, ◌≤◌, ◌++◌, length, decimal};
 ghost use Rattle.gc_cli.specs.Text.{reply_text, reply_line};
 ghost use Rattle.gc_cli.specs.Command.{status_line, cause_text};
 ghost use Rattle.gc_cli.specs.declared.status.Status.TheVariants.{Bad};
