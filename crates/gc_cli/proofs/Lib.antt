@@ -4,3 +4,4 @@ pub mod HeapAnswers
 pub mod HeapFirst
 pub mod StreamLemmas
 pub mod PlayLemmas
+pub mod TellingLemmas

@@ -1,8 +1,8 @@
 -- What one call after another reads and writes.
-use Rattle.std.proofs.Common.{◌≡◌, ℕ, ◌<◌, ◌≤◌, List, [], ◌∷◌, ◌++◌, length, Option, Some, None, refl, sym, ap, ◌∙◌, append_assoc, inl, inr, ◌⊎◌, arith}
+use Rattle.std.proofs.Common.{ℕ, ◌≤◌, List, [], ◌++◌, Option, Some, None, refl, sym, ap, ◌∙◌, append_assoc, inl, inr, arith}
 use Rattle.std.proofs.lemmas.List.{append-nil}
 use Rattle.gc_io.specs.Faults.{HasRisen}
-use Rattle.gc_io.specs.Streams.{GivesUp, Appends, AppendsPrefix}
+use Rattle.gc_io.specs.Streams.{GivesUp, Appends}
 
 -- bytes that a source gives up one after another are given up together
 pub GivesUp-append : (old mid new : Option (List ℕ)) (xs ys : List ℕ) → GivesUp old mid xs → GivesUp mid new ys → GivesUp old new (xs ++ ys)

@@ -1,10 +1,13 @@
 -- What a run of the program read, played and printed.
-use Rattle.std.specs.Prelude.{◌≡◌, ℕ, ◌<◌, ◌≤◌, List, [], ◌++◌, length, Option, IfSome}
+use Rattle.std.specs.Prelude.{◌≡◌, ℕ, ◌<◌, ◌≤◌, List, [], ◌++◌, length, Option, IfSome, Ok, Err}
 use Rattle.gc_io.specs.Streams.{GivesUp, Appends, AppendsPrefix}
 use Rattle.gc_model.specs.declared.reply.Reply.{Reply}
 use Rattle.gc_model.specs.Interim.{replies_of}
 use Rattle.gc_model.specs.World.{first_world}
-use Rattle.gc_script.specs.Cut.{IsCutScript}
+use Rattle.gc_script.specs.Cut.{IsCutScript, IsCutFault}
+use Rattle.gc_script.specs.Fault.{cause_number}
+use Rattle.gc_script.specs.Grammar.{script_of}
+use Rattle.gc_script.specs.declared.fault.ScriptFault.TheVariants.{Bad}
 use Rattle.gc_script.specs.Script.{Script}
 use Rattle.gc_cli.specs.declared.opts.Opts.{Opts}
 use Rattle.gc_cli.specs.Text.{text_of}
@@ -36,10 +39,13 @@ pub record PlaysInPart (half : ℕ) (rest_old rest_new written_old written_new :
   pub script_is : IsCutScript bytes script
   pub printed : AppendsPrefix written_old written_new (text_of script (graph_replies half script))
 
--- the source was read to its end, and its bytes are no script that can be played so far
-pub record IsNoScript (old new : Option (List ℕ)) (bytes : List ℕ) : Type 0 where
+-- the source was read to its end, and its bytes are no script that can be played so far; the line and the cause
+-- are those of the first fault, or, of a script, why it can't be played so far
+pub record IsNoScript (old new : Option (List ℕ)) (bytes : List ℕ) (line cause : ℕ) : Type 0 where
   pub read : IsRead old new bytes
   pub refused : (script : Script) → ¬ IsCutScript bytes script
+  pub first : (fault : _) → script_of bytes ≡ Err fault → (line ≡ fault.line) × (cause ≡ cause_number fault.cause)
+  pub cut : (script : Script) → script_of bytes ≡ Ok script → IsCutFault script (Bad line cause)
 
 -- the source gave more bytes than a script may have
 pub record IsTooLong (old new : Option (List ℕ)) (bytes : List ℕ) : Type 0 where

@@ -58,7 +58,7 @@ pub fn play_bytes<S: Source, K: Sink>(
     ensures long { result.status ≡ Status.Long
         → ((bytes : List ℕ) × IsTooLong (S.rest src.old) (S.rest src.new) bytes) }
     ensures bad { (line cause : ℕ) → result.status ≡ Status.Bad line cause
-        → ((bytes : List ℕ) × IsNoScript (S.rest src.old) (S.rest src.new) bytes) }
+        → ((bytes : List ℕ) × IsNoScript (S.rest src.old) (S.rest src.new) bytes line cause) }
     ensures write_fault { result.status ≡ Status.WriteFault → HasRisen (K.faults out.old) (K.faults out.new) }
     ensures write_part { result.status ≡ Status.WriteFault
         → ((bytes : List ℕ) × (script : Text) × PlaysInPart opts.now.nursery (S.rest src.old) (S.rest src.new)
@@ -107,7 +107,7 @@ pub fn moar_gc<R, S: Source, K: Sink, E: Sink, G: Gate + Sync>(
     ensures long { result.status ≡ Status.Long
         → ((bytes : List ℕ) × IsTooLong (S.rest src.old) (S.rest src.new) bytes) }
     ensures bad { (line cause : ℕ) → result.status ≡ Status.Bad line cause
-        → ((bytes : List ℕ) × IsNoScript (S.rest src.old) (S.rest src.new) bytes) }
+        → ((bytes : List ℕ) × IsNoScript (S.rest src.old) (S.rest src.new) bytes line cause) }
     ensures write_fault { result.status ≡ Status.WriteFault → HasRisen (K.faults out.old) (K.faults out.new) }
     ensures write_part { result.status ≡ Status.WriteFault
         → ((bytes : List ℕ) × (script : Text) × PlaysInPart default_half (S.rest src.old) (S.rest src.new)

@@ -1,5 +1,5 @@
-use Rattle.std.proofs.Common.{◌≡◌, ◌∷◌, ◌+◌, drop, arith}
-use Rattle.gc_model.specs.Interim.{answer_to, replies_of}
+use Rattle.std.proofs.Common.{arith}
+use Rattle.gc_model.specs.Interim.{answer_to}
 use Rattle.gc_cli.proofs.PlayLemmas.{slice_get-below, replies_of-next, replies-more}
 use Rattle.gc_cli.proofs.play.play.Goals as goal
 
