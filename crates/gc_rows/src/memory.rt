@@ -1,6 +1,7 @@
-ghost use Rattle.std.specs.Prelude.{◌≡◌, ℕ, ◌++◌};
+ghost use Rattle.std.specs.Prelude.{◌≡◌, ℕ, ◌++◌, ◌↔◌, None, map, string_bytes};
 ghost use Rattle.gc_script.specs.Cut.{IsCutScript};
 ghost use Rattle.gc_script.specs.Script.{Script};
+ghost use Rattle.gc_cli.specs.Command.{request_of};
 ghost use Rattle.gc_cli.specs.Played.{graph_replies, default_half};
 ghost use Rattle.gc_cli.specs.Text.{text_of};
 
@@ -24,6 +25,8 @@ pub fn run_in_memory<R>(
     // A script is refused only where all that the source had is none.
     ensures bad { (line cause : ℕ) → result.status ≡ Status.Bad line cause
         → (script : Script) → ¬ IsCutScript src.old.rest script }
+    // Usage is answered exactly where the words are no command line.
+    ensures usage { (result.status ≡ Status.Usage) ↔ (request_of (map string_bytes words.now) ≡ None) }
 {
     moar_gc(rt, alloc, words, src, out, err, &OpenGate)
 }
