@@ -91,7 +91,8 @@ impl Types {
 
     /// The shapes of all types, by type number.
     pub fn as_slice(&self) -> &[Shape]
-        ensures { result.now ≡ self.now }
+        ensures shapes { result.now ≡ self.now }
+        ensures types { AreTypes self.now }
     {
         self.shapes.as_slice()
     }

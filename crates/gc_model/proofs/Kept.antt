@@ -1,5 +1,5 @@
 -- No call and no collection takes an object away.
-use Rattle.std.proofs.Common.{ℕ, Bool, true, false, Option, None, Some, List, [], ◌∷◌, if◌then◌else◌, not, ◌&&◌, inl, inr, refl, ap}
+use Rattle.std.proofs.Common.{◌≡◌, ℕ, Bool, true, false, Option, None, Some, List, [], ◌∷◌, if◌then◌else◌, not, ◌&&◌, inl, inr, refl, ap}
 use Rattle.std.proofs.Math.Seq.{map-set_same}
 use Rattle.std.proofs.lemmas.List.{length-set, map-append}
 use Rattle.gc_layout.specs.declared.shape.Shape.{Shape}
@@ -12,7 +12,7 @@ use Rattle.gc_model.specs.Graph.{Object, common_object, object_at}
 use Rattle.gc_model.specs.World.{World, Mutator, with_mutator, with_register, with_object, with_slot, with_number, is_blocked}
 use Rattle.gc_model.specs.Answer.{Answer, at_base, within, loads, keeps, effect, answer, suits_blocked, wants_blocked}
 use Rattle.gc_model.specs.History.{is_done, world_after_entry}
-use Rattle.gc_model.specs.Laws.{kind_of, KeepsObjects}
+use Rattle.gc_model.specs.Laws.{kind_of, kinds_of, KeepsObjects}
 
 -- a world keeps its own objects
 same : (world : World) → KeepsObjects world world
@@ -23,20 +23,22 @@ with_mutator-keeps : (world : World) (t : ℕ) (mutator : Mutator) → KeepsObje
 with_mutator-keeps world t mutator = record { mutators = length-set world.mutators t mutator; objects = inl refl }
 
 -- a slot that changes is still one slot
-with_slot-keeps : (world : World) (number place : ℕ) (value : Option ℕ) → KeepsObjects world (with_slot world number place value)
-with_slot-keeps world number place value = record {
-  mutators = refl;
-  objects = inl (map-set_same kind_of world.graph number _ common_object
-      (ap (λ n. record (kind_of (object_at world.graph number)) { slots = n }) (length-set (object_at world.graph number).slots place value)));
-}
+pub with_slot-kinds : (world : World) (number place : ℕ) (value : Option ℕ) → kinds_of (with_slot world number place value).graph ≡ kinds_of world.graph
+with_slot-kinds world number place value =
+    map-set_same kind_of world.graph number _ common_object (ap (λ n. record (kind_of (object_at world.graph number)) { slots = n }) (length-set (object_at world.graph number).slots place value))
 
 -- a number that changes is still one number
+pub with_number-kinds : (world : World) (number place value : ℕ) → kinds_of (with_number world number place value).graph ≡ kinds_of world.graph
+with_number-kinds world number place value =
+    map-set_same kind_of world.graph number _ common_object (ap (λ n. record (kind_of (object_at world.graph number)) { numbers = n }) (length-set (object_at world.graph number).numbers place value))
+
+-- so it keeps the objects
+with_slot-keeps : (world : World) (number place : ℕ) (value : Option ℕ) → KeepsObjects world (with_slot world number place value)
+with_slot-keeps world number place value = record { mutators = refl; objects = inl (with_slot-kinds world number place value) }
+
+-- so it keeps the objects too
 with_number-keeps : (world : World) (number place value : ℕ) → KeepsObjects world (with_number world number place value)
-with_number-keeps world number place value = record {
-  mutators = refl;
-  objects = inl (map-set_same kind_of world.graph number _ common_object
-      (ap (λ n. record (kind_of (object_at world.graph number)) { numbers = n }) (length-set (object_at world.graph number).numbers place value)));
-}
+with_number-keeps world number place value = record { mutators = refl; objects = inl (with_number-kinds world number place value) }
 
 -- the new object stands after the others
 with_object-keeps : (world : World) (object : Object) (t into : ℕ) (value : Option ℕ) → KeepsObjects world (with_register (with_object world object) t into value)

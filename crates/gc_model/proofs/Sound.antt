@@ -2,26 +2,28 @@
 use Rattle.std.proofs.Common.{◌≡◌, ◌∙◌, ℕ, ◌<◌, ◌≤◌, Bool, true, false, Option, None, Some, List, [], ◌∷◌, ◌++◌, All, IfSome, if◌then◌else◌, not, ◌&&◌, length, length-set, length-append, fold, inl, inr, refl, ap, sym, subst, arith, lit<, slice_index_or, slice_set}
 use Rattle.std.proofs.Math.ListN.{get_or-eq_default, get_or-append}
 use Rattle.std.proofs.lemmas.Bool.{cases_lt}
-use Rattle.std.proofs.lemmas.List.Elements.{All-set, All-append, All-replicate}
+use Rattle.std.proofs.lemmas.List.{length-replicate}
+use Rattle.std.proofs.lemmas.List.Elements.{All-set, All-append, All-push, All-replicate}
 use Rattle.gc_layout.specs.declared.shape.Shape.{Shape}
+use Rattle.gc_layout.specs.Shape.{size_of}
 use Rattle.gc_model.specs.declared.call.Call.{Call}
 use Rattle.gc_model.specs.declared.call.Call.TheVariants.{New, Get, Put, Ask, Set, SwapIf, Same, CopyReg, ClearReg, Share, Take, Await, Safepoint, Block, Unblock, Collect, End}
 use Rattle.gc_model.specs.declared.entry.Entry.{Entry}
 use Rattle.gc_model.specs.declared.entry.Entry.TheVariants.{Made, Run}
 use Rattle.gc_model.specs.declared.reply.Reply.TheVariants.{Blocked, NotBlocked}
-use Rattle.gc_model.specs.Graph.{Object, common_object, fresh_object, object_at}
+use Rattle.gc_model.specs.Graph.{Object, common_object, fresh_object, object_at, object_size}
 use Rattle.gc_model.specs.World.{World, Mutator, first_world, fresh_mutator, mutator_at, named_by, with_mutator, with_register, with_blocked, with_object, with_slot, with_number, is_blocked}
 use Rattle.gc_model.specs.Answer.{Answer, at_base, within, loads, keeps, effect, answer, shape_at, suits_blocked, wants_blocked}
 use Rattle.gc_model.specs.History.{Configuration, History, is_done, world_after_entry, world_after}
 use Rattle.gc_model.specs.Laws.{AreThere, IsSound}
-use Rattle.gc_model.specs.Plain.{IsKept}
+use Rattle.gc_model.specs.Plain.{IsKept, Plain, with_world}
 
 -- it names one of so many objects, or nothing
-abbrev IsThere : ℕ → Option ℕ → Type 0
+abbrev pub IsThere : ℕ → Option ℕ → Type 0
 IsThere count name = IfSome name (λ number. number < count)
 
 -- 16 registers that name one of so many objects each, or nothing
-abbrev IsSoundMutator : ℕ → Mutator → Type 0
+abbrev pub IsSoundMutator : ℕ → Mutator → Type 0
 IsSoundMutator count mutator = (length mutator.registers ≡ 16) × AreThere count mutator.registers
 
 -- what holds of each element and of the default holds of what stands at any index
@@ -39,16 +41,16 @@ all_there-more : (fewer more : ℕ) → fewer ≤ more → (names : List (Option
 all_there-more fewer more at_most names all k d below = there-more fewer more at_most _ (all k d below)
 
 -- registers that are nothing name no object that is missing
-fresh_mutator-sound : (count : ℕ) → IsSoundMutator count fresh_mutator
+pub fresh_mutator-sound : (count : ℕ) → IsSoundMutator count fresh_mutator
 fresh_mutator-sound count = (refl, All-replicate (IsThere count) 16 None tt)
 
 -- each mutator of a sound world is sound
-mutator_at-sound : (world : World) → IsSound world → (t : ℕ) → IsSoundMutator (length world.graph) (mutator_at world t)
+pub mutator_at-sound : (world : World) → IsSound world → (t : ℕ) → IsSoundMutator (length world.graph) (mutator_at world t)
 mutator_at-sound world sound t =
     or_default (IsSoundMutator (length world.graph)) world.mutators t fresh_mutator sound.registers (fresh_mutator-sound _)
 
 -- a register of a sound world names an object that is there
-named_by-there : (world : World) → IsSound world → (t reg : ℕ) → IsThere (length world.graph) (named_by world t reg)
+pub named_by-there : (world : World) → IsSound world → (t reg : ℕ) → IsThere (length world.graph) (named_by world t reg)
 named_by-there world sound t reg =
     or_default (IsThere (length world.graph)) (mutator_at world t).registers reg None (mutator_at-sound world sound t).1 tt
 
@@ -58,12 +60,12 @@ object_at-there world sound number =
     or_default (λ object. AreThere (length world.graph) object.slots) world.graph number common_object sound.slots (All-replicate (IsThere (length world.graph)) 16 None tt)
 
 -- so does each slot
-slot-there : (world : World) → IsSound world → (number place : ℕ) → IsThere (length world.graph) (slice_index_or (object_at world.graph number).slots place None)
+pub slot-there : (world : World) → IsSound world → (number place : ℕ) → IsThere (length world.graph) (slice_index_or (object_at world.graph number).slots place None)
 slot-there world sound number place =
     or_default (IsThere (length world.graph)) (object_at world.graph number).slots place None (object_at-there world sound number) tt
 
 -- a sound mutator takes its place
-with_mutator-sound : (world : World) → IsSound world → (t : ℕ) (mutator : Mutator) → IsSoundMutator (length world.graph) mutator → IsSound (with_mutator world t mutator)
+pub with_mutator-sound : (world : World) → IsSound world → (t : ℕ) (mutator : Mutator) → IsSoundMutator (length world.graph) mutator → IsSound (with_mutator world t mutator)
 with_mutator-sound world sound t mutator own = record {
   common = sound.common;
   registers = All-set (IsSoundMutator (length world.graph)) world.mutators t mutator own sound.registers;
@@ -71,13 +73,13 @@ with_mutator-sound world sound t mutator own = record {
 }
 
 -- a register comes to name an object that is there
-with_register-sound : (world : World) → IsSound world → (t reg : ℕ) (name : Option ℕ) → IsThere (length world.graph) name → IsSound (with_register world t reg name)
+pub with_register-sound : (world : World) → IsSound world → (t reg : ℕ) (name : Option ℕ) → IsThere (length world.graph) name → IsSound (with_register world t reg name)
 with_register-sound world sound t reg name there =
     let own = mutator_at-sound world sound t in
     with_mutator-sound world sound t _ (length-set (mutator_at world t).registers reg name ∙ own.0, All-set (IsThere (length world.graph)) (mutator_at world t).registers reg name there own.1)
 
 -- blocking changes no name
-with_blocked-sound : (world : World) → IsSound world → (t : ℕ) (blocked : Bool) → IsSound (with_blocked world t blocked)
+pub with_blocked-sound : (world : World) → IsSound world → (t : ℕ) (blocked : Bool) → IsSound (with_blocked world t blocked)
 with_blocked-sound world sound t blocked = with_mutator-sound world sound t _ (mutator_at-sound world sound t)
 
 -- an object whose slots name objects that are there takes another's place
@@ -89,16 +91,16 @@ with_changed-sound world sound number object there =
     record { common = kept.0; registers = kept.1; slots = kept.2 }
 
 -- a slot comes to name an object that is there
-with_slot-sound : (world : World) → IsSound world → (number place : ℕ) (name : Option ℕ) → IsThere (length world.graph) name → IsSound (with_slot world number place name)
+pub with_slot-sound : (world : World) → IsSound world → (number place : ℕ) (name : Option ℕ) → IsThere (length world.graph) name → IsSound (with_slot world number place name)
 with_slot-sound world sound number place name there =
     with_changed-sound world sound number _ (All-set (IsThere (length world.graph)) (object_at world.graph number).slots place name there (object_at-there world sound number))
 
 -- a number names nothing
-with_number-sound : (world : World) → IsSound world → (number place value : ℕ) → IsSound (with_number world number place value)
+pub with_number-sound : (world : World) → IsSound world → (number place value : ℕ) → IsSound (with_number world number place value)
 with_number-sound world sound number place value = with_changed-sound world sound number _ (object_at-there world sound number)
 
 -- a new object names nothing, and the old names stay
-with_object-sound : (world : World) → IsSound world → (ty : ℕ) (maker : Option ℕ) (shape : Shape) → IsSound (with_object world (fresh_object ty maker shape))
+pub with_object-sound : (world : World) → IsSound world → (ty : ℕ) (maker : Option ℕ) (shape : Shape) → IsSound (with_object world (fresh_object ty maker shape))
 with_object-sound world sound ty maker shape =
     let object = fresh_object ty maker shape in
     let count = length world.graph in
@@ -112,17 +114,24 @@ with_object-sound world sound ty maker shape =
           (All-replicate (λ each. AreThere more each.slots) 1 object (All-replicate (IsThere more) shape.slots None tt));
     }
 
--- a new object leaves the common one as it is
-pub with_object-kept : (world : World) → IsKept world → (ty : ℕ) (maker : Option ℕ) (shape : Shape) → IsKept (with_object world (fresh_object ty maker shape))
-with_object-kept world kept ty maker shape =
+-- a new object has the size of its shape
+fresh_object-size : (ty : ℕ) (maker : Option ℕ) (shape : Shape) → object_size (fresh_object ty maker shape) ≡ size_of shape
+fresh_object-size ty maker shape = omega (arith, length-replicate {A = Option ℕ} shape.slots None, length-replicate {A = ℕ} shape.numbers 0)
+
+-- a new object leaves the common one as it is, and is small where its type is
+pub with_object-kept : (plain : Plain) → IsKept plain → (ty : ℕ) (maker : Option ℕ) (shape : Shape) → size_of shape ≤ 64 → IsKept (with_world plain (with_object plain.world (fresh_object ty maker shape)))
+with_object-kept plain kept ty maker shape small =
     let object = fresh_object ty maker shape in
+    let graph = plain.world.graph in
     record {
-      sound = with_object-sound world kept.sound ty maker shape;
-      common_slots = ap (λ (common : Object). length common.slots) (get_or-append world.graph (object ∷ []) common_object 0 kept.sound.common) ∙ kept.common_slots;
+      sound = with_object-sound plain.world kept.sound ty maker shape;
+      common_slots = ap (λ (common : Object). length common.slots) (get_or-append graph (object ∷ []) common_object 0 kept.sound.common) ∙ kept.common_slots;
+      small = All-push (λ each. object_size each ≤ 64) graph object kept.small (omega (arith, small, fresh_object-size ty maker shape));
+      small_types = kept.small_types;
     }
 
 -- a register comes to name the new object
-new_object-sound : (world : World) → IsSound world → (t into ty : ℕ) (shape : Shape) → IsSound (with_register (with_object world (fresh_object ty (Some t) shape)) t into (Some (length world.graph)))
+pub new_object-sound : (world : World) → IsSound world → (t into ty : ℕ) (shape : Shape) → IsSound (with_register (with_object world (fresh_object ty (Some t) shape)) t into (Some (length world.graph)))
 new_object-sound world sound t into ty shape =
     let object = fresh_object ty (Some t) shape in
     with_register-sound (with_object world object) (with_object-sound world sound ty (Some t) shape) t into _ (omega (arith, length-append world.graph (object ∷ [])))
@@ -147,7 +156,7 @@ loads-sound world sound t into None there = sound
 loads-sound world sound t into (Some number) there = with_register-sound world sound t into (Some number) there
 
 -- each of the calls keeps a world sound
-effect-sound : (types : List Shape) (world : World) → IsSound world → (t : ℕ) (room : Bool) (call : Call) → IsSound (effect types world t room call).world
+pub effect-sound : (types : List Shape) (world : World) → IsSound world → (t : ℕ) (room : Bool) (call : Call) → IsSound (effect types world t room call).world
 effect-sound types world sound t room (New into ty) = choice-sound room _ _ (new_object-sound world sound t into ty.0 (shape_at types ty.0)) sound
 effect-sound types world sound t room (Get into base place) =
     at_base-sound world sound _ _ (λ number. within-sound world sound place _ _ (loads-sound world sound t into _ (slot-there world sound number place)))

@@ -1,5 +1,5 @@
 -- Histories: what the mutators called and were answered, and the collections.
-use Rattle.std.specs.Prelude.{◌≡◌, ℕ, ◌+◌, ◌*◌, ◌<◌, ◌≤◌, List, [], ◌∷◌, ◌++◌, length, map, filter, fold, sum_by, Bool, true, false, ◌==◌, if◌then◌else◌, IsTrue, None, Some, Option}
+use Rattle.std.specs.Prelude.{◌≡◌, ℕ, zero, suc, ◌+◌, ◌*◌, ◌<◌, ◌≤◌, List, [], ◌∷◌, ◌++◌, length, map, filter, fold, sum_by, Bool, true, false, ◌==◌, if◌then◌else◌, IsTrue, None, Some, Option, slice_index_or}
 use Rattle.std.specs.List.{list_any, filter_map}
 use Rattle.gc_layout.specs.declared.shape.Shape.{Shape}
 use Rattle.gc_layout.specs.Shape.{size_of}
@@ -110,6 +110,39 @@ own_call t (Run report) = None
 abbrev pub calls_of : ℕ → History → List Call
 calls_of t history = filter_map (own_call t) history
 
+-- the reply of an entry, where it is a mutator's own
+abbrev pub own_reply : ℕ → Entry → Option Reply
+own_reply t (Made mutator call reply) = if mutator == t then Some reply else None
+own_reply t (Run report) = None
+
+-- the replies to a mutator's calls, in their order
+abbrev pub replies_to : ℕ → History → List Reply
+replies_to t history = filter_map (own_reply t) history
+
+-- whether a line is a mutator's own
+abbrev pub is_line_of : ℕ → Line → Bool
+is_line_of t line = line.mutator == t
+
+-- the replies to lines, of which some stand before: that to a mutator's n-th line is the reply to its n-th call
+abbrev pub replies_by_line : History → List Line → List Line → List Reply
+replies_by_line history before [] = []
+replies_by_line history before (line ∷ lines) =
+    slice_index_or (replies_to line.mutator history) (length (filter (is_line_of line.mutator) before)) Done ∷ replies_by_line history (before ++ line ∷ []) lines
+
+-- the line that an entry makes, where it is a call
+abbrev pub made_line : Entry → Option Line
+made_line (Made mutator call reply) = Some (record { mutator = mutator; call = call })
+made_line (Run report) = None
+
+-- the calls of all mutators, in their order
+abbrev pub lines_in : History → List Line
+lines_in history = filter_map made_line history
+
+-- the End of each mutator, in order of number
+abbrev pub ends_of : ℕ → List Line
+ends_of zero = []
+ends_of (suc mutators) = ends_of mutators ++ record { mutator = mutators; call = End } ∷ []
+
 -- whether an entry is a collection
 abbrev pub is_collection : Entry → Bool
 is_collection (Made mutator call reply) = false
@@ -124,5 +157,5 @@ allowance_of call = 0
 -- a history fits a script's lines: each mutator's calls are its lines in their order and then one End, and
 -- there are no more collections than the lines allow
 pub record FitsScript (mutators : ℕ) (lines : List Line) (history : History) : Type 0 where
-  pub calls : (t : ℕ) → t < mutators → calls_of t history ≡ map (λ line. line.call) (filter (λ line. line.mutator == t) lines) ++ End ∷ []
+  pub calls : (t : ℕ) → t < mutators → calls_of t history ≡ map (λ line. line.call) (filter (is_line_of t) lines) ++ End ∷ []
   pub collections : length (filter is_collection history) ≤ sum_by (λ line. allowance_of line.call) lines

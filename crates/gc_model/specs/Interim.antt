@@ -3,10 +3,12 @@ use Rattle.std.specs.Prelude.{ℕ, ◌+◌, List, [], ◌∷◌, Bool, true, nat
 use Rattle.gc_layout.specs.declared.shape.Shape.{Shape}
 use Rattle.gc_layout.specs.Shape.{size_of}
 use Rattle.gc_model.specs.declared.call.Call.{Call}
-use Rattle.gc_model.specs.declared.call.Call.TheVariants.{New, Set, Ask}
+use Rattle.gc_model.specs.declared.call.Call.TheVariants.{New, Collect}
 use Rattle.gc_model.specs.declared.call.Line.{Line}
 use Rattle.gc_model.specs.declared.reply.Reply.{Reply}
+use Rattle.gc_model.specs.declared.entry.Entry.TheVariants.{Made}
 use Rattle.gc_model.specs.Graph.{made_words}
+use Rattle.gc_model.specs.History.{History}
 use Rattle.gc_model.specs.World.{World}
 use Rattle.gc_model.specs.Answer.{Answer, answer, shape_at}
 
@@ -25,12 +27,16 @@ replies_of types nursery world [] = []
 replies_of types nursery world (line ∷ lines) =
     (answer_to types nursery world line).reply ∷ replies_of types nursery (answer_to types nursery world line).world lines
 
--- the calls that are built so far
+-- the history of the lines of a script, in their order
+abbrev pub history_of : List Shape → ℕ → World → List Line → History
+history_of types nursery world [] = []
+history_of types nursery world (line ∷ lines) =
+    Made line.mutator line.call (answer_to types nursery world line).reply ∷ history_of types nursery (answer_to types nursery world line).world lines
+
+-- the calls that are built so far: all but collect
 abbrev pub IsBuilt : Call → Type 0
-IsBuilt (New into ty) = Unit {0}
-IsBuilt (Set base place number) = Unit {0}
-IsBuilt (Ask base place) = Unit {0}
-IsBuilt call = ⊥
+IsBuilt Collect = ⊥
+IsBuilt call = Unit {0}
 
 -- the calls that make an object
 abbrev pub IsNew : Call → Type 0

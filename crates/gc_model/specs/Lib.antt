@@ -7,5 +7,6 @@ pub mod Laws
 pub mod Plain
 pub mod Reach
 pub mod World
+pub mod Worklist
 pub use Rattle.gc_layout.specs.Shape
 pub use Rattle.gc_layout.specs.Types

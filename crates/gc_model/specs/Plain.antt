@@ -1,9 +1,10 @@
 -- The plain graph that a program keeps: a world, and the types of its objects.
-use Rattle.std.specs.Prelude.{◌≡◌, ℕ, List, length, Option, None, Some, Result, Ok, Err}
+use Rattle.std.specs.Prelude.{◌≡◌, ◌≤◌, ℕ, List, length, All, Option, None, Some, Result, Ok, Err}
 use Rattle.gc_layout.specs.declared.shape.Shape.{Shape}
+use Rattle.gc_layout.specs.Shape.{size_of}
 use Rattle.gc_model.specs.declared.reply.Reply.{Reply}
 use Rattle.gc_model.specs.Answer.{Answer, keeps, at_base, within}
-use Rattle.gc_model.specs.Graph.{Object, object_at}
+use Rattle.gc_model.specs.Graph.{Object, object_at, object_size}
 use Rattle.gc_model.specs.Laws.{IsSound}
 use Rattle.gc_model.specs.World.{World, Mutator, named_by}
 
@@ -18,10 +19,13 @@ plain_of types graph mutators = record { types = types; world = record { graph =
 abbrev pub with_world : Plain → World → Plain
 with_world plain world = record { types = plain.types; world = world }
 
--- each name is an object's, and the common object has 16 slots
-pub record IsKept (world : World) : Type 0 where
-  pub sound : IsSound world
-  pub common_slots : length (object_at world.graph 0).slots ≡ 16
+-- each name is an object's, the common object has 16 slots, and no object has more than 64 words, nor would
+-- one of any type
+pub record IsKept (plain : Plain) : Type 0 where
+  pub sound : IsSound plain.world
+  pub common_slots : length (object_at plain.world.graph 0).slots ≡ 16
+  pub small : All (λ object. object_size object ≤ 64) plain.world.graph
+  pub small_types : All (λ shape. size_of shape ≤ 64) plain.types
 
 -- what a call answers that goes on only where nothing refuses it
 abbrev pub unless_refused : World → Option Reply → Answer → Answer

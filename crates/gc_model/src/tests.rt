@@ -3,13 +3,19 @@ ghost use Rattle.gc_layout.specs.Shape.{common_shape};
 ghost use Rattle.gc_model.specs.Answer.{IsFit};
 ghost use Rattle.gc_model.specs.World.{first_world};
 
-use crate::{Call, Reg, Reply, World};
+use crate::{Call, Live, Reg, Reply, World};
 use gc_layout::{NoMemory, Shape, TypeNo, Types};
 use std::alloc::Global;
 use std::test::Fail;
 
 /// The type that a test adds.
 const ADDED: TypeNo = TypeNo(1);
+
+/// What is live where nothing names an object: the common object.
+const ALONE: Live = Live {
+    objects: 1,
+    words: 18,
+};
 
 /// The register of a number.
 fn reg(number: u8) -> Reg
@@ -32,6 +38,13 @@ fn world_with(alloc: Global, slots: u8, numbers: u8) -> Result<World, NoMemory>
         Ok(_) => World::make(alloc, &types, 1),
         Err(_) => unreachable!(),
     }
+}
+
+/// A New of the type that a test adds.
+fn new_into(into: Reg) -> Call
+    ensures { result ≡ Call.New into ADDED }
+{
+    Call::New { into, ty: ADDED }
 }
 
 /// What mutator 0 is answered where there is room.
@@ -217,5 +230,93 @@ fn what_was_shared_is_taken(rt: HostRuntime) -> Result<(), Fail> {
     assert_eq!(rt; answer(&mut world, alloc, take)?, Reply::Done);
     assert_eq!(rt; answer(&mut world, alloc, same)?, Reply::Yes);
     assert_eq!(rt; answer(&mut world, alloc, await_another)?, Reply::Nil);
+    Ok(())
+}
+
+#[test]
+fn the_common_object_and_what_registers_name_are_live(rt: HostRuntime) -> Result<(), Fail> {
+    let alloc = rt.alloc();
+    let mut world = world_with(alloc, 0, 1)?;
+    let with_box = Live {
+        objects: 2,
+        words: 21,
+    };
+    let into = reg(15);
+    assert_eq!(rt; world.count_live(alloc)?, ALONE);
+    assert_eq!(rt; answer(&mut world, alloc, new_into(into))?, Reply::Done);
+    assert_eq!(rt; world.count_live(alloc)?, with_box);
+    assert_eq!(rt; answer(&mut world, alloc, Call::Block)?, Reply::Done);
+    assert_eq!(rt; world.count_live(alloc)?, with_box);
+    assert_eq!(rt; answer(&mut world, alloc, Call::Unblock)?, Reply::Done);
+    assert_eq!(rt;
+        answer(&mut world, alloc, Call::ClearReg { reg: into })?,
+        Reply::Done
+    );
+    assert_eq!(rt; world.count_live(alloc)?, ALONE);
+    Ok(())
+}
+
+#[test]
+fn what_live_objects_name_is_live(rt: HostRuntime) -> Result<(), Fail> {
+    let alloc = rt.alloc();
+    let mut world = world_with(alloc, 2, 0)?;
+    let (first, second) = (reg(0), reg(1));
+    let both = Live {
+        objects: 3,
+        words: 26,
+    };
+    // The last slot of the first object alone names the second.
+    let put = Call::Put {
+        base: first,
+        place: 1,
+        value: second,
+    };
+    let clear = Call::ClearReg { reg: second };
+    let share = Call::Share {
+        place: 15,
+        value: first,
+    };
+    assert_eq!(rt; answer(&mut world, alloc, new_into(first))?, Reply::Done);
+    assert_eq!(rt; answer(&mut world, alloc, new_into(second))?, Reply::Done);
+    assert_eq!(rt; answer(&mut world, alloc, put)?, Reply::Done);
+    assert_eq!(rt; answer(&mut world, alloc, clear)?, Reply::Done);
+    assert_eq!(rt; world.count_live(alloc)?, both);
+    assert_eq!(rt; answer(&mut world, alloc, share)?, Reply::Done);
+    assert_eq!(rt; answer(&mut world, alloc, Call::End)?, Reply::Done);
+    assert_eq!(rt; world.count_live(alloc)?, both);
+    Ok(())
+}
+
+#[test]
+fn a_cycle_that_nothing_names_is_not_live(rt: HostRuntime) -> Result<(), Fail> {
+    let alloc = rt.alloc();
+    let mut world = world_with(alloc, 2, 0)?;
+    let (first, second) = (reg(0), reg(1));
+    let put_second = Call::Put {
+        base: first,
+        place: 0,
+        value: second,
+    };
+    let put_first = Call::Put {
+        base: second,
+        place: 1,
+        value: first,
+    };
+    let clear_second = Call::ClearReg { reg: second };
+    let clear_first = Call::ClearReg { reg: first };
+    assert_eq!(rt; answer(&mut world, alloc, new_into(first))?, Reply::Done);
+    assert_eq!(rt; answer(&mut world, alloc, new_into(second))?, Reply::Done);
+    assert_eq!(rt; answer(&mut world, alloc, put_second)?, Reply::Done);
+    assert_eq!(rt; answer(&mut world, alloc, put_first)?, Reply::Done);
+    assert_eq!(rt; answer(&mut world, alloc, clear_second)?, Reply::Done);
+    assert_eq!(rt;
+        world.count_live(alloc)?,
+        Live {
+            objects: 3,
+            words: 26
+        }
+    );
+    assert_eq!(rt; answer(&mut world, alloc, clear_first)?, Reply::Done);
+    assert_eq!(rt; world.count_live(alloc)?, ALONE);
     Ok(())
 }

@@ -1,11 +1,13 @@
 ghost use Rattle.std.specs.Prelude.{◌≡◌, ◌<◌, ◌≤◌, Bool, true, length, replicate, IfOk, OnOk, OnErr};
 ghost use Rattle.gc_model.specs.Answer.{answer, effect, IsFit, Suits};
-ghost use Rattle.gc_model.specs.Graph.{fresh_object};
+ghost use Rattle.gc_model.specs.Graph.{fresh_object, object_size};
 ghost use Rattle.gc_model.specs.Interim.{IsNew};
 ghost use Rattle.gc_model.specs.World.{first_world, fresh_mutator};
 ghost use Rattle.gc_model.specs.Plain.{Plain, unless_refused};
 
 mod fields;
+mod found;
+mod reach;
 mod registers;
 
 use crate::{Call, Reg, Reply};
@@ -60,6 +62,14 @@ impl Object {
             numbers: vec![in alloc; 0; usize::from(shape.numbers)]?,
         })
     }
+
+    /// The size in words: header, forwarding word, slots and numbers.
+    fn size(&self) -> u64
+        requires { object_size self.now ≤ 64 }
+        ensures { result ≡ object_size self.now }
+    {
+        2 + self.slots.len() as u64 + self.numbers.len() as u64
+    }
 }
 
 /// What a mutator keeps.
@@ -92,7 +102,7 @@ impl Model for World {
 
     ghost view = { λ w. plain_of w.types.items w.objects.items w.mutators.items };
 
-    ghost invariant = { λ w. IsKept (record { graph = w.objects.items; mutators = w.mutators.items }) };
+    ghost invariant = { λ w. IsKept (plain_of w.types.items w.objects.items w.mutators.items) };
 }
 
 impl World {
