@@ -3,7 +3,7 @@ use Rattle.std.proofs.Common.{◌≡◌, ℕ, ◌≤◌, List, [], ◌∷◌, le
 use Rattle.std.proofs.lemmas.Bool.Decides.{nat_tests}
 use Rattle.gc_model.specs.declared.call.Line.{Line}
 use Rattle.gc_script.specs.declared.call_line.CallWord.{CallWord}
-use Rattle.gc_script.specs.declared.call_line.CallWord.TheVariants.{New, Get, Put, Ask, Set, Swap, Same, Copy, Clear, Share, Take, Await, Safepoint, Block, Unblock, Collect}
+use Rattle.gc_script.specs.declared.call_line.CallWord.TheVariants.{New, Get, Put, Ask, Set, Swap, Same, Copy, Clear, Share, Take, Await, Safepoint, Block, Unblock}
 use Rattle.gc_script.specs.declared.fault.Cause.{Cause}
 use Rattle.gc_script.specs.declared.fault.Cause.TheVariants.{Word}
 use Rattle.gc_script.specs.Fault.{◌>>=◌}
@@ -48,7 +48,6 @@ argument_count-le Await = lit≤ tt
 argument_count-le Safepoint = lit≤ tt
 argument_count-le Block = lit≤ tt
 argument_count-le Unblock = lit≤ tt
-argument_count-le Collect = lit≤ tt
 
 -- five words behind a call word are too many, whichever they are
 counted_word-many : (word : List ℕ) (a b c d e : List ℕ) (more : List (List ℕ)) → counted_word word (a ∷ b ∷ c ∷ d ∷ e ∷ more) ≡ (call_word word >>= λ kind. Err Word)

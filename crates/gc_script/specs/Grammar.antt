@@ -8,11 +8,11 @@ use Rattle.gc_model.specs.declared.call.Call.{Call}
 use Rattle.gc_model.specs.declared.call.Call.TheVariants as calls
 use Rattle.gc_model.specs.declared.call.Line.{Line}
 use Rattle.gc_script.specs.declared.call_line.CallWord.{CallWord}
-use Rattle.gc_script.specs.declared.call_line.CallWord.TheVariants.{New, Get, Put, Ask, Set, Swap, Same, Copy, Clear, Share, Take, Await, Safepoint, Block, Unblock, Collect}
+use Rattle.gc_script.specs.declared.call_line.CallWord.TheVariants.{New, Get, Put, Ask, Set, Swap, Same, Copy, Clear, Share, Take, Await, Safepoint, Block, Unblock}
 use Rattle.gc_script.specs.declared.fault.Cause.{Cause}
 use Rattle.gc_script.specs.declared.fault.Cause.TheVariants.{Version, Word, «Type» as TypeCause, Mutator, Duplicate}
 use Rattle.gc_script.specs.declared.fault.Fault.{Fault}
-use Rattle.gc_script.specs.Fault.{◌>>=◌, at_line}
+use Rattle.gc_script.specs.Fault.{◌>>=◌, at_line, cause_number}
 use Rattle.gc_script.specs.Script.{Preamble, Script, first_preamble}
 use Rattle.gc_script.specs.Text.{lines_of, words_of}
 use Rattle.gc_script.specs.Words.{number, number_below, small, common_place, register, is_type_name, type_named}
@@ -66,8 +66,7 @@ call_word word =
     if bytes_eq word (codes "await") then Ok Await else (
     if bytes_eq word (codes "safepoint") then Ok Safepoint else (
     if bytes_eq word (codes "block") then Ok Block else (
-    if bytes_eq word (codes "unblock") then Ok Unblock else (
-    if bytes_eq word (codes "collect") then Ok Collect else Err Word)))))))))))))))
+    if bytes_eq word (codes "unblock") then Ok Unblock else Err Word))))))))))))))
 
 -- how many words stand behind a call word
 unfoldable pub argument_count : CallWord → ℕ
@@ -86,7 +85,6 @@ argument_count Await = 2
 argument_count Safepoint = 0
 argument_count Block = 0
 argument_count Unblock = 0
-argument_count Collect = 0
 
 -- what stands behind each call word, from left to right
 unfoldable pub new_call : List (List ℕ) → List (List ℕ) → Result Call Cause
@@ -194,7 +192,6 @@ call_of names Await words = await_call words
 call_of names Safepoint words = Ok calls.Safepoint
 call_of names Block words = Ok calls.Block
 call_of names Unblock words = Ok calls.Unblock
-call_of names Collect words = Ok calls.Collect
 
 -- the call word of a call line, where the number of words behind it is that of the word
 unfoldable pub counted_word : List ℕ → List (List ℕ) → Result CallWord Cause
@@ -247,6 +244,11 @@ script_of bytes = script_of_lines (lines_of bytes)
 -- the text is this script
 abbrev pub IsScript : List ℕ → Script → Type 0
 IsScript bytes script = script_of bytes ≡ Ok script
+
+-- the text's first fault is in this line, and its cause has this number
+abbrev pub IsFirstFault : List ℕ → ℕ → ℕ → Type 0
+IsFirstFault bytes line cause =
+    (fault : Fault) × (script_of bytes ≡ Err fault) × (line ≡ fault.line) × (cause ≡ cause_number fault.cause)
 
 -- the fault, where nothing was read
 abbrev pub fault_of : Result Script Fault → Option Fault

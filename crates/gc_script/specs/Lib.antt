@@ -1,4 +1,3 @@
-pub mod Cut
 pub mod Fault
 pub mod Grammar
 pub mod Script

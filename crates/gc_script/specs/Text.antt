@@ -1,6 +1,10 @@
 -- Cutting a text into lines, and a line into words.
 use Rattle.std.specs.Prelude.{ℕ, suc, List, [], ◌∷◌, Option, None, Some, ◌==◌, if◌then◌else◌}
 
+-- the most bytes of a script
+abbrev pub most_bytes : ℕ
+most_bytes = 16777216
+
 -- the pieces with one more byte at the front of the first
 abbrev pub with_first : ℕ → List (List ℕ) → List (List ℕ)
 with_first byte [] = (byte ∷ []) ∷ []

@@ -1,12 +1,11 @@
 //! Call lines: a mutator, a call word and what stands behind it.
 
 ghost use Rattle.std.specs.Prelude.{◌≡◌, ℕ, ◌<◌, ◌+◌, length, map, IfOk};
-ghost use Rattle.gc_model.specs.Answer.{Suits};
-ghost use Rattle.gc_script.specs.Script.{IsFitLine};
+ghost use Rattle.gc_script.specs.Script.{IsReadable, IsScriptLine};
 ghost use Rattle.gc_script.specs.Grammar.{call_line, call_word, counted_word, argument_count, call_of, new_call, get_call, put_call, ask_call, set_call, swap_call, same_call, copy_call, clear_call, share_call, take_call, await_call};
 
 use crate::fault::Cause;
-use crate::names::{TypeName, type_named};
+use crate::names::Names;
 use crate::preamble::Preamble;
 use crate::words::{common_place, mutator_below, number, register, small};
 use gc_model::{Call, Line};
@@ -29,30 +28,29 @@ pub(crate) enum CallWord {
     Safepoint,
     Block,
     Unblock,
-    Collect,
 }
 
 // What stands behind each call word, from left to right.
 
 #[tactic(auto, unfolding(crate::specs::Grammar::new_call))]
-fn new_call(names: &[TypeName], words: &[&[u8]]) -> Result<Call, Cause>
+fn new_call(names: &Names, words: &[&[u8]]) -> Result<Call, Cause>
     requires { length names.now < 256 }
     ensures call { result ≡ new_call names.now (map (λ word. word.now) words.now) }
-    ensures suits { IfOk result (Suits (length names.now + 1)) }
+    ensures readable { IfOk result (IsReadable (length names.now + 1)) }
 {
     let [into, name] = words else {
         return Err(Cause::Word);
     };
     Ok(Call::New {
         into: register(into)?,
-        ty: type_named(names, name)?,
+        ty: names.type_named(name)?,
     })
 }
 
 #[tactic(auto, unfolding(crate::specs::Grammar::get_call))]
 fn get_call(words: &[&[u8]]) -> Result<Call, Cause>
     ensures call { result ≡ get_call (map (λ word. word.now) words.now) }
-    ensures suits { (types : ℕ) → IfOk result (Suits types) }
+    ensures readable { (types : ℕ) → IfOk result (IsReadable types) }
 {
     let [into, base, place] = words else {
         return Err(Cause::Word);
@@ -67,7 +65,7 @@ fn get_call(words: &[&[u8]]) -> Result<Call, Cause>
 #[tactic(auto, unfolding(crate::specs::Grammar::put_call))]
 fn put_call(words: &[&[u8]]) -> Result<Call, Cause>
     ensures call { result ≡ put_call (map (λ word. word.now) words.now) }
-    ensures suits { (types : ℕ) → IfOk result (Suits types) }
+    ensures readable { (types : ℕ) → IfOk result (IsReadable types) }
 {
     let [base, place, value] = words else {
         return Err(Cause::Word);
@@ -82,7 +80,7 @@ fn put_call(words: &[&[u8]]) -> Result<Call, Cause>
 #[tactic(auto, unfolding(crate::specs::Grammar::ask_call))]
 fn ask_call(words: &[&[u8]]) -> Result<Call, Cause>
     ensures call { result ≡ ask_call (map (λ word. word.now) words.now) }
-    ensures suits { (types : ℕ) → IfOk result (Suits types) }
+    ensures readable { (types : ℕ) → IfOk result (IsReadable types) }
 {
     let [base, place] = words else {
         return Err(Cause::Word);
@@ -96,7 +94,7 @@ fn ask_call(words: &[&[u8]]) -> Result<Call, Cause>
 #[tactic(auto, unfolding(crate::specs::Grammar::set_call))]
 fn set_call(words: &[&[u8]]) -> Result<Call, Cause>
     ensures call { result ≡ set_call (map (λ word. word.now) words.now) }
-    ensures suits { (types : ℕ) → IfOk result (Suits types) }
+    ensures readable { (types : ℕ) → IfOk result (IsReadable types) }
 {
     let [base, place, value] = words else {
         return Err(Cause::Word);
@@ -111,7 +109,7 @@ fn set_call(words: &[&[u8]]) -> Result<Call, Cause>
 #[tactic(auto, unfolding(crate::specs::Grammar::swap_call))]
 fn swap_call(words: &[&[u8]]) -> Result<Call, Cause>
     ensures call { result ≡ swap_call (map (λ word. word.now) words.now) }
-    ensures suits { (types : ℕ) → IfOk result (Suits types) }
+    ensures readable { (types : ℕ) → IfOk result (IsReadable types) }
 {
     let [base, place, expected, replacement] = words else {
         return Err(Cause::Word);
@@ -127,7 +125,7 @@ fn swap_call(words: &[&[u8]]) -> Result<Call, Cause>
 #[tactic(auto, unfolding(crate::specs::Grammar::same_call))]
 fn same_call(words: &[&[u8]]) -> Result<Call, Cause>
     ensures call { result ≡ same_call (map (λ word. word.now) words.now) }
-    ensures suits { (types : ℕ) → IfOk result (Suits types) }
+    ensures readable { (types : ℕ) → IfOk result (IsReadable types) }
 {
     let [left, right] = words else {
         return Err(Cause::Word);
@@ -141,7 +139,7 @@ fn same_call(words: &[&[u8]]) -> Result<Call, Cause>
 #[tactic(auto, unfolding(crate::specs::Grammar::copy_call))]
 fn copy_call(words: &[&[u8]]) -> Result<Call, Cause>
     ensures call { result ≡ copy_call (map (λ word. word.now) words.now) }
-    ensures suits { (types : ℕ) → IfOk result (Suits types) }
+    ensures readable { (types : ℕ) → IfOk result (IsReadable types) }
 {
     let [into, source] = words else {
         return Err(Cause::Word);
@@ -155,7 +153,7 @@ fn copy_call(words: &[&[u8]]) -> Result<Call, Cause>
 #[tactic(auto, unfolding(crate::specs::Grammar::clear_call))]
 fn clear_call(words: &[&[u8]]) -> Result<Call, Cause>
     ensures call { result ≡ clear_call (map (λ word. word.now) words.now) }
-    ensures suits { (types : ℕ) → IfOk result (Suits types) }
+    ensures readable { (types : ℕ) → IfOk result (IsReadable types) }
 {
     let [reg] = words else {
         return Err(Cause::Word);
@@ -168,7 +166,7 @@ fn clear_call(words: &[&[u8]]) -> Result<Call, Cause>
 #[tactic(auto, unfolding(crate::specs::Grammar::share_call))]
 fn share_call(words: &[&[u8]]) -> Result<Call, Cause>
     ensures call { result ≡ share_call (map (λ word. word.now) words.now) }
-    ensures suits { (types : ℕ) → IfOk result (Suits types) }
+    ensures readable { (types : ℕ) → IfOk result (IsReadable types) }
 {
     let [place, value] = words else {
         return Err(Cause::Word);
@@ -182,7 +180,7 @@ fn share_call(words: &[&[u8]]) -> Result<Call, Cause>
 #[tactic(auto, unfolding(crate::specs::Grammar::take_call))]
 fn take_call(words: &[&[u8]]) -> Result<Call, Cause>
     ensures call { result ≡ take_call (map (λ word. word.now) words.now) }
-    ensures suits { (types : ℕ) → IfOk result (Suits types) }
+    ensures readable { (types : ℕ) → IfOk result (IsReadable types) }
 {
     let [into, place] = words else {
         return Err(Cause::Word);
@@ -196,7 +194,7 @@ fn take_call(words: &[&[u8]]) -> Result<Call, Cause>
 #[tactic(auto, unfolding(crate::specs::Grammar::await_call))]
 fn await_call(words: &[&[u8]]) -> Result<Call, Cause>
     ensures call { result ≡ await_call (map (λ word. word.now) words.now) }
-    ensures suits { (types : ℕ) → IfOk result (Suits types) }
+    ensures readable { (types : ℕ) → IfOk result (IsReadable types) }
 {
     let [into, place] = words else {
         return Err(Cause::Word);
@@ -209,10 +207,10 @@ fn await_call(words: &[&[u8]]) -> Result<Call, Cause>
 
 /// The call of a call word and the words behind it.
 #[tactic(auto, unfolding(crate::specs::Grammar::call_of))]
-fn call_of(names: &[TypeName], word: CallWord, words: &[&[u8]]) -> Result<Call, Cause>
+fn call_of(names: &Names, word: CallWord, words: &[&[u8]]) -> Result<Call, Cause>
     requires { length names.now < 256 }
     ensures call { result ≡ call_of names.now word (map (λ word. word.now) words.now) }
-    ensures suits { IfOk result (Suits (length names.now + 1)) }
+    ensures readable { IfOk result (IsReadable (length names.now + 1)) }
 {
     match word {
         CallWord::New => new_call(names, words),
@@ -230,7 +228,6 @@ fn call_of(names: &[TypeName], word: CallWord, words: &[&[u8]]) -> Result<Call, 
         CallWord::Safepoint => Ok(Call::Safepoint),
         CallWord::Block => Ok(Call::Block),
         CallWord::Unblock => Ok(Call::Unblock),
-        CallWord::Collect => Ok(Call::Collect),
     }
 }
 
@@ -251,7 +248,7 @@ fn counted_word(word: &[u8], arguments: &[&[u8]]) -> Result<CallWord, Cause>
 #[tactic(auto, unfolding(crate::specs::Grammar::call_line))]
 pub(crate) fn call_line(preamble: &Preamble, words: &[&[u8]]) -> Result<Line, Cause>
     ensures line { result ≡ call_line preamble.now (map (λ word. word.now) words.now) }
-    ensures fit { IfOk result (IsFitLine preamble.now) }
+    ensures fit { IfOk result (IsScriptLine preamble.now) }
 {
     let [mutator, word, arguments @ ..] = words else {
         return Err(Cause::Word);
@@ -283,7 +280,6 @@ fn call_word(word: &[u8]) -> Result<CallWord, Cause>
         b"safepoint" => Ok(CallWord::Safepoint),
         b"block" => Ok(CallWord::Block),
         b"unblock" => Ok(CallWord::Unblock),
-        b"collect" => Ok(CallWord::Collect),
         _ => Err(Cause::Word),
     }
 }
@@ -294,7 +290,7 @@ fn argument_count(word: CallWord) -> usize
     ensures { result ≡ argument_count word }
 {
     match word {
-        CallWord::Safepoint | CallWord::Block | CallWord::Unblock | CallWord::Collect => 0,
+        CallWord::Safepoint | CallWord::Block | CallWord::Unblock => 0,
         CallWord::Clear => 1,
         CallWord::New
         | CallWord::Ask

@@ -49,10 +49,4 @@ impl Lines {
     {
         self.lines.get(i).copied()
     }
-
-    pub(crate) fn as_slice(&self) -> &[Line]
-        ensures { result.now ≡ self.now }
-    {
-        self.lines.as_slice()
-    }
 }

@@ -1,8 +1,8 @@
-ghost use Rattle.std.specs.Prelude.{◌≡◌, ◌<◌, ◌+◌, length, map, MatchResult};
+ghost use Rattle.std.specs.Prelude.{◌≡◌, ◌<◌, ◌≤◌, ◌+◌, false, length, map, Err, MatchResult};
 ghost use Rattle.gc_script.specs.Grammar.{shape_of};
 
 use crate::fault::{Cause, Fault, ReadError};
-use crate::names::{TypeName, is_taken};
+use crate::names::Names;
 use crate::words::{is_type_name, small};
 use gc_layout::{Shape, Types};
 use std::alloc::Global;
@@ -12,42 +12,45 @@ use std::marker::Model;
 #[derive(Debug, Drop)]
 pub(crate) struct Preamble {
     mutators: u8,
-    names: Vec<TypeName>,
+    names: Names,
     types: Types,
 }
 
 impl Model for Preamble {
-    ghost use Rattle.std.specs.Prelude.{◌≡◌, ◌+◌, length};
+    ghost use Rattle.std.specs.Prelude.{◌≡◌, ◌+◌, ◌≤◌, length};
     ghost use Rattle.gc_script.specs.Script.{Preamble as Declared};
 
     ghost Value = { Declared };
 
-    ghost view = { λ p. record { mutators = p.mutators; names = p.names.items; types = p.types } };
+    ghost view = { λ p. record { mutators = p.mutators; names = p.names; types = p.types } };
 
-    ghost invariant = { λ p. length p.names.items + 1 ≡ length p.types };
+    ghost invariant = { λ p. (length p.names + 1 ≡ length p.types) × (1 ≤ p.mutators) × (p.mutators ≤ 8) };
 }
 
 impl Preamble {
     ghost use Rattle.gc_script.specs.Fault.{Gives};
-    ghost use Rattle.gc_script.specs.Grammar.{type_line, with_type};
+    ghost use Rattle.gc_script.specs.Grammar.{is_taken, type_line, with_type};
     ghost use Rattle.gc_script.specs.Script.{first_preamble};
     ghost use Rattle.gc_script.specs.declared.fault.ReadError.TheVariants.{Memory};
 
+    /// How many mutators there are, 1 to 8.
     pub(crate) fn mutators(&self) -> u8
-        ensures { result ≡ self.now.mutators }
+        ensures mutators { result ≡ self.now.mutators }
+        ensures some { 1 ≤ result }
+        ensures few { result ≤ 8 }
     {
         self.mutators
     }
 
     /// The names of the types, from type 1 on.
-    pub(crate) fn names(&self) -> &[TypeName]
+    pub(crate) fn names(&self) -> &Names
         ensures names { result.now ≡ self.now.names }
         ensures few { length result.now < 256 }
         ensures types { length result.now + 1 ≡ length self.now.types }
     {
         // The count says that there are at most 256 types.
         let _count = self.types.count();
-        self.names.as_slice()
+        &self.names
     }
 
     /// The types, by number.
@@ -59,6 +62,8 @@ impl Preamble {
 
     /// Nothing is declared yet.
     pub(crate) fn make(alloc: Global, mutators: u8) -> Result<Preamble, ReadError<Fault>>
+        requires some { 1 ≤ mutators }
+        requires few { mutators ≤ 8 }
         ensures { MatchResult result (λ made. made ≡ first_preamble mutators) (λ error. error ≡ Memory) }
     {
         let Ok(types) = Types::make(alloc) else {
@@ -66,13 +71,12 @@ impl Preamble {
         };
         Ok(Preamble {
             mutators,
-            names: Vec::new(alloc),
+            names: Names::new(alloc),
             types,
         })
     }
 
     /// What is declared once a type line is read.
-    #[tactic(auto, unfolding(crate::specs::Grammar::type_line))]
     pub(crate) fn with_type_line(
         self,
         alloc: Global,
@@ -80,22 +84,32 @@ impl Preamble {
     ) -> Result<Preamble, ReadError<Cause>>
         ensures { Gives (λ preamble. preamble) result (type_line self (map (λ word. word.now) words.now)) }
     {
-        let [_, name, slots, numbers] = words else {
-            return Err(ReadError::Refused(Cause::Word));
-        };
-        if !is_type_name(name) {
-            return Err(ReadError::Refused(Cause::Type));
-        }
-        if is_taken(self.names.as_slice(), name) {
-            return Err(ReadError::Refused(Cause::Duplicate));
-        }
-        match shape_of(slots, numbers) {
-            Ok(shape) => self.with_type(alloc, name, shape),
+        match self.new_type(words) {
+            Ok((name, shape)) => self.with_type(alloc, name, shape),
             Err(cause) => Err(ReadError::Refused(cause)),
         }
     }
 
-    /// What is declared with one more type.
+    /// The name and the shape that a type line gives, where all that is left to test is the room for it.
+    #[tactic(auto, unfolding(crate::specs::Grammar::type_line))]
+    fn new_type<'a>(&self, words: &[&'a [u8]]) -> Result<(&'a [u8], Shape), Cause>
+        ensures { MatchResult result
+            (λ new. (is_taken self.now.names new.0.now ≡ false) × (type_line self.now (map (λ word. word.now) words.now) ≡ with_type self.now new.0.now new.1))
+            (λ cause. type_line self.now (map (λ word. word.now) words.now) ≡ Err cause) }
+    {
+        let [_, name, slots, numbers] = words else {
+            return Err(Cause::Word);
+        };
+        if !is_type_name(name) {
+            return Err(Cause::Type);
+        }
+        if self.names.is_taken(name) {
+            return Err(Cause::Duplicate);
+        }
+        Ok((*name, shape_of(slots, numbers)?))
+    }
+
+    /// What is declared with one more type, whose name isn't taken.
     #[tactic(auto, unfolding(crate::specs::Grammar::with_type))]
     fn with_type(
         self,
@@ -103,6 +117,7 @@ impl Preamble {
         name: &[u8],
         shape: Shape,
     ) -> Result<Preamble, ReadError<Cause>>
+        requires { is_taken self.names name.now ≡ false }
         ensures { Gives (λ preamble. preamble) result (with_type self name.now shape) }
     {
         let Preamble {
@@ -113,7 +128,7 @@ impl Preamble {
         if types.add(shape).is_err() {
             return Err(ReadError::Refused(Cause::Type));
         }
-        names.push(TypeName::copy_of(alloc, name)?)?;
+        names.add(alloc, name)?;
         Ok(Preamble {
             mutators,
             names,

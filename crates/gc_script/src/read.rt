@@ -1,12 +1,12 @@
-//! Reading a whole text line by line, over the whole grammar.
+//! Reading a whole text line by line.
 
 ghost use Rattle.std.specs.Prelude.{◌≡◌, ◌+◌, ◌^◌, ◌<◌, ◌≤◌, [], ◌∷◌, ◌++◌, length, map, All, Ok, IfOk, MatchResult};
 ghost use Rattle.gc_model.specs.declared.call.Line.{Line};
 ghost use Rattle.gc_script.specs.Fault.{Gives, Fails, at_line, located};
 ghost use Rattle.gc_script.specs.declared.fault.ReadError.TheVariants.{Refused};
 ghost use Rattle.gc_script.specs.Grammar.{mutators_line, is_type_line, type_line, call_line, call_lines, body, after_version, script_of, script_with_calls};
-ghost use Rattle.gc_script.specs.Script.{IsFitLine};
-ghost use Rattle.gc_script.specs.Text.{lines_of, words_of};
+ghost use Rattle.gc_script.specs.Script.{IsScriptLine};
+ghost use Rattle.gc_script.specs.Text.{most_bytes, lines_of, words_of};
 
 use crate::call_line::call_line;
 use crate::cut::{split_line, split_words};
@@ -21,7 +21,9 @@ use std::alloc::Global;
 /// Line 2: `mutators M`, with M from 1 to 8.
 #[tactic(auto, unfolding(crate::specs::Grammar::mutators_line))]
 fn mutators_line(words: &[&[u8]]) -> Result<u8, Cause>
-    ensures { result ≡ mutators_line (map (λ word. word.now) words.now) }
+    ensures value { result ≡ mutators_line (map (λ word. word.now) words.now) }
+    ensures some { IfOk result (λ mutators. 1 ≤ mutators) }
+    ensures few { IfOk result (λ mutators. mutators ≤ 8) }
 {
     let [keyword, count] = words else {
         return Err(Cause::Word);
@@ -50,7 +52,9 @@ fn is_type_line(words: &[&[u8]]) -> bool
 /// How many mutators line 2 declares.
 #[tactic(auto, using(crate::proofs::TruncationLemmas::truncated))]
 fn declared_mutators(line: &[u8]) -> Result<u8, Cause>
-    ensures { result ≡ mutators_line (words_of line.now) }
+    ensures value { result ≡ mutators_line (words_of line.now) }
+    ensures some { IfOk result (λ mutators. 1 ≤ mutators) }
+    ensures few { IfOk result (λ mutators. mutators ≤ 8) }
 {
     let words = split_words(line);
     mutators_line(words.as_slice())
@@ -60,7 +64,7 @@ fn declared_mutators(line: &[u8]) -> Result<u8, Cause>
 #[tactic(auto, using(crate::proofs::TruncationLemmas::truncated))]
 fn read_call_line(preamble: &Preamble, line: &[u8]) -> Result<Line, Cause>
     ensures line { result ≡ call_line preamble.now (words_of line.now) }
-    ensures fit { IfOk result (IsFitLine preamble.now) }
+    ensures fit { IfOk result (IsScriptLine preamble.now) }
 {
     let words = split_words(line);
     call_line(preamble, words.as_slice())
@@ -74,7 +78,7 @@ fn push_line(
     line: &[u8],
 ) -> Result<(), ReadError<Fault>>
     ensures { MatchResult result
-        (λ _. (read : Line) × (call_line preamble.now (words_of line.now) ≡ Ok read) × IsFitLine preamble.now read × (lines.new ≡ lines.old ++ read ∷ []))
+        (λ _. (read : Line) × (call_line preamble.now (words_of line.now) ≡ Ok read) × IsScriptLine preamble.now read × (lines.new ≡ lines.old ++ read ∷ []))
         (λ error. Fails error (at_line number (call_line preamble.now (words_of line.now)))) }
 {
     match read_call_line(preamble, line) {
@@ -99,7 +103,7 @@ fn call_lines(
 ) -> Result<Lines, ReadError<Fault>>
     requires { first + length bytes.now < 2 ^ 32 }
     ensures lines { Gives (λ lines. lines) result (call_lines preamble.now first (lines_of bytes.now)) }
-    ensures fit { IfOk result (λ lines. All (IsFitLine preamble.now) lines) }
+    ensures fit { IfOk result (λ lines. All (IsScriptLine preamble.now) lines) }
     ensures few { IfOk result (λ lines. length lines ≤ length bytes.now) }
 {
     let mut lines = Lines::new(alloc);
@@ -144,7 +148,7 @@ fn type_lines(
     declared: Preamble,
     bytes: &[u8],
 ) -> Result<CallLines<'_>, ReadError<Fault>>
-    requires { length bytes.now ≤ 16777216 }
+    requires { length bytes.now ≤ most_bytes }
     ensures body { MatchResult result
         (λ calls. script_with_calls calls.preamble calls.first (lines_of calls.text.now) ≡ body declared 3 (lines_of bytes.now))
         (λ error. Fails error (body declared 3 (lines_of bytes.now))) }
@@ -172,7 +176,7 @@ fn type_lines(
 
 /// The type lines and the call lines.
 fn body(alloc: Global, declared: Preamble, bytes: &[u8]) -> Result<Script, ReadError<Fault>>
-    requires { length bytes.now ≤ 16777216 }
+    requires { length bytes.now ≤ most_bytes }
     ensures { Gives (λ script. script) result (body declared 3 (lines_of bytes.now)) }
 {
     let CallLines {
@@ -187,7 +191,7 @@ fn body(alloc: Global, declared: Preamble, bytes: &[u8]) -> Result<Script, ReadE
 /// What stands behind the version line.
 #[tactic(auto, unfolding(crate::specs::Grammar::after_version))]
 fn after_version(alloc: Global, bytes: &[u8]) -> Result<Script, ReadError<Fault>>
-    requires { length bytes.now ≤ 16777216 }
+    requires { length bytes.now ≤ most_bytes }
     ensures { Gives (λ script. script) result (after_version (lines_of bytes.now)) }
 {
     let Some((line, rest)) = split_line(bytes) else {
@@ -202,7 +206,7 @@ fn after_version(alloc: Global, bytes: &[u8]) -> Result<Script, ReadError<Fault>
 /// The script that the text is, or its first fault.
 #[tactic(auto, unfolding(crate::specs::Grammar::script_of_lines))]
 pub(crate) fn script(alloc: Global, bytes: &[u8]) -> Result<Script, ReadError<Fault>>
-    requires { length bytes.now ≤ 16777216 }
+    requires { length bytes.now ≤ most_bytes }
     ensures { Gives (λ script. script) result (script_of bytes.now) }
 {
     match split_line(bytes) {

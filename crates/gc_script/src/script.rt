@@ -1,4 +1,6 @@
 ghost use Rattle.std.specs.Prelude.{◌≡◌, ◌<◌, ◌≤◌, ◌↔◌, length, slice_get, IsNone, IfSome};
+ghost use Rattle.gc_model.specs.Interim.{IsBuilt};
+ghost use Rattle.gc_script.specs.Text.{most_bytes};
 
 use crate::lines::Lines;
 use crate::preamble::Preamble;
@@ -9,8 +11,9 @@ use std::marker::Model;
 /// The number of the first line behind the version line and the line of the mutators.
 const FIRST_LINE: u32 = 3;
 
-/// A script: the number of mutators, the types with their names, and the call lines. Each line is fit:
-/// its mutator is there, its type is declared, and its place of the common object is below 16.
+/// A script: the number of mutators, 1 to 8, the types with their names, and the call lines. Each line is
+/// fit: its mutator is there, its type is declared, and its place of the common object is below 16. None is
+/// a Collect.
 #[derive(Debug, Drop)]
 pub struct Script {
     preamble: Preamble,
@@ -19,22 +22,23 @@ pub struct Script {
 
 impl Model for Script {
     ghost use Rattle.std.specs.Prelude.{◌≤◌, length, All};
-    ghost use Rattle.gc_script.specs.Script.{Script as Text, IsFitLine};
+    ghost use Rattle.gc_script.specs.Script.{Script as Text, IsScriptLine};
+    ghost use Rattle.gc_script.specs.Text.{most_bytes};
 
     ghost Value = { Text };
 
     ghost view = { λ s. record { preamble = s.preamble; lines = s.lines } };
 
-    ghost invariant = { λ s. (length s.lines ≤ 16777216) × All (IsFitLine s.preamble) s.lines };
+    ghost invariant = { λ s. (length s.lines ≤ most_bytes) × All (IsScriptLine s.preamble) s.lines };
 }
 
 impl Script {
     ghost use Rattle.std.specs.Prelude.{All};
-    ghost use Rattle.gc_script.specs.Script.{IsFitLine, number_of_line};
+    ghost use Rattle.gc_script.specs.Script.{IsFitLine, IsScriptLine, number_of_line};
 
     pub(crate) fn new(preamble: Preamble, lines: Lines) -> Script
-        requires few { length lines ≤ 16777216 }
-        requires fit { All (IsFitLine preamble) lines }
+        requires few { length lines ≤ most_bytes }
+        requires fit { All (IsScriptLine preamble) lines }
         ensures { result ≡ record { preamble = preamble; lines = lines } }
     {
         Script { preamble, lines }
@@ -42,7 +46,9 @@ impl Script {
 
     /// How many mutators there are, 1 to 8.
     pub fn mutators(&self) -> u8
-        ensures { result ≡ self.now.preamble.mutators }
+        ensures mutators { result ≡ self.now.preamble.mutators }
+        ensures some { 1 ≤ result }
+        ensures few { result ≤ 8 }
     {
         self.preamble.mutators()
     }
@@ -54,10 +60,12 @@ impl Script {
         self.preamble.types()
     }
 
-    /// How many call lines there are.
+    /// How many call lines there are. Each is fit, and none is a Collect.
     pub fn count(&self) -> usize
         ensures count { result ≡ length self.now.lines }
-        ensures most { result ≤ 16777216 }
+        ensures most { result ≤ most_bytes }
+        ensures fit { All (IsFitLine self.now.preamble) self.now.lines }
+        ensures built { All (λ line. IsBuilt line.call) self.now.lines }
     {
         self.lines.len()
     }
@@ -67,6 +75,7 @@ impl Script {
         ensures line { result ≡ slice_get self.now.lines i }
         ensures none { IsNone result ↔ (length self.now.lines ≤ i) }
         ensures fit { IfSome result (IsFitLine self.now.preamble) }
+        ensures built { IfSome result (λ line. IsBuilt line.call) }
     {
         self.lines.get(i)
     }
@@ -78,24 +87,10 @@ impl Script {
         ensures none { IsNone result ↔ (length self.now.lines ≤ i) }
     {
         if i < self.lines.len() {
-            Some(self.number_of(i))
+            let declared = self.preamble.names().len();
+            Some(FIRST_LINE + declared as u32 + i as u32)
         } else {
             None
         }
-    }
-
-    /// The number in the text, from 1, of a call line counted from 0.
-    pub(crate) fn number_of(&self, i: usize) -> u32
-        requires { i < length self.now.lines }
-        ensures { result ≡ number_of_line self.now i }
-    {
-        let declared = self.preamble.names().len();
-        FIRST_LINE + declared as u32 + i as u32
-    }
-
-    pub(crate) fn lines(&self) -> &[Line]
-        ensures { result.now ≡ self.now.lines }
-    {
-        self.lines.as_slice()
     }
 }

@@ -1,6 +1,8 @@
 use crate::{ScriptFault, read_script};
+use gc_layout::TypeNo;
 use gc_model::{Call, Line, Reg};
-use std::alloc::Global;
+use std::alloc::{AllocError, Global};
+use std::mem::size_of;
 use std::test::Fail;
 
 // The numbers of the causes.
@@ -18,8 +20,14 @@ const MUTATOR: u8 = 6;
 
 const DUPLICATE: u8 = 7;
 
-/// A script of each call line that can be played so far.
+/// A script of one mutator, with one type.
 const BOX: &str = "moar-gc 1\nmutators 1\ntype box 0 1\n0 new r0 box\n0 set r0 0 42\n0 ask r0 0\n";
+
+/// A script with a line of each call word, all of the last of eight mutators.
+const EACH_CALL_WORD: &str = "moar-gc 1\nmutators 8\ntype pair 2 0\n\
+    7 new r1 pair\n7 get r1 r2 3\n7 put r1 3 r2\n7 ask r1 3\n7 set r1 3 4\n7 swap r1 3 4 5\n\
+    7 same r1 r2\n7 copy r1 r2\n7 clear r1\n7 share 3 r1\n7 take r1 3\n7 await r1 3\n\
+    7 safepoint\n7 block\n7 unblock\n";
 
 /// How many call lines are read, or the fault.
 fn read(alloc: Global, text: &[u8]) -> Result<usize, ScriptFault> {
@@ -42,14 +50,25 @@ fn texts_are_read_by_the_grammar(rt: HostRuntime) {
         ("", bad(1, VERSION)),
         ("moar-gc 1\n", bad(2, WORD)),
         ("moar-gc 1\nmutators 9\n", bad(2, MUTATOR)),
-        // So far there is one mutator.
-        ("moar-gc 1\nmutators 2\n", bad(2, MUTATOR)),
+        ("moar-gc 1\nmutators 0\n", bad(2, MUTATOR)),
+        ("moar-gc 1\nmutators 2\n", Ok(0)),
+        ("moar-gc 1\nmutators 8\n7 clear r15\n", Ok(1)),
+        ("moar-gc 1\nmutators 8\n8 clear r15\n", bad(3, MUTATOR)),
+        (EACH_CALL_WORD, Ok(15)),
         ("moar-gc 1\nmutators 1\n0\task r0 0\n", bad(3, WORD)),
         ("moar-gc 1\nmutators 1\n0  ask r0 0\n", bad(3, WORD)),
         ("moar-gc 1\nmutators 1\n0 ask\n", bad(3, WORD)),
         ("moar-gc 1\nmutators 1\n0 jump r0 0\n", bad(3, WORD)),
-        // So far `clear` is not played.
-        ("moar-gc 1\nmutators 1\n0 clear r0\n", bad(3, WORD)),
+        ("moar-gc 1\nmutators 1\n0 clear r0\n", Ok(1)),
+        // `collect` is no call word yet.
+        ("moar-gc 1\nmutators 1\n0 collect\n", bad(3, WORD)),
+        ("moar-gc 1\nmutators 1\n0 safepoint 1\n", bad(3, WORD)),
+        ("moar-gc 1\nmutators 1\n0 swap r0 0 1\n", bad(3, WORD)),
+        ("moar-gc 1\nmutators 1\n0 swap r0 0 1 2 3\n", bad(3, WORD)),
+        ("moar-gc 1\nmutators 1\n0 share 16 r0\n", bad(3, NUMBER)),
+        ("moar-gc 1\nmutators 1\n0 share 15 r0\n", Ok(1)),
+        ("moar-gc 1\nmutators 1\n0 take r0 16\n", bad(3, NUMBER)),
+        ("moar-gc 1\nmutators 1\n0 await r16 16\n", bad(3, REGISTER)),
         ("moar-gc 1\nmutators 1\n1 ask r0 0\n", bad(3, MUTATOR)),
         ("moar-gc 1\nmutators 1\n0 ask r16 0\n", bad(3, REGISTER)),
         (
@@ -98,6 +117,121 @@ fn a_script_holds_what_was_read(rt: HostRuntime) -> Result<(), Fail> {
     assert_eq!(rt; script.line_number(0), Some(4));
     assert_eq!(rt; script.line_number(3), None);
     Ok(())
+}
+
+#[test]
+fn each_call_word_reads_as_its_call(rt: HostRuntime) -> Result<(), Fail> {
+    let one = Reg::make(1).ok_or("no register")?;
+    let two = Reg::make(2).ok_or("no register")?;
+    let calls = [
+        Call::New {
+            into: one,
+            ty: TypeNo(1),
+        },
+        Call::Get {
+            into: one,
+            base: two,
+            place: 3,
+        },
+        Call::Put {
+            base: one,
+            place: 3,
+            value: two,
+        },
+        Call::Ask {
+            base: one,
+            place: 3,
+        },
+        Call::Set {
+            base: one,
+            place: 3,
+            number: 4,
+        },
+        Call::SwapIf {
+            base: one,
+            place: 3,
+            expected: 4,
+            replacement: 5,
+        },
+        Call::Same {
+            left: one,
+            right: two,
+        },
+        Call::CopyReg {
+            into: one,
+            source: two,
+        },
+        Call::ClearReg { reg: one },
+        Call::Share {
+            place: 3,
+            value: one,
+        },
+        Call::Take {
+            into: one,
+            place: 3,
+        },
+        Call::Await {
+            into: one,
+            place: 3,
+        },
+        Call::Safepoint,
+        Call::Block,
+        Call::Unblock,
+    ];
+    let script = read_script(rt.alloc(), EACH_CALL_WORD.as_bytes())?;
+    assert_eq!(rt; script.mutators(), 8);
+    assert_eq!(rt; script.count(), 15);
+    for (i, call) in calls.iter().enumerate() {
+        let line = Line {
+            mutator: 7,
+            call: *call,
+        };
+        assert_eq!(rt; script.line(i), Some(line), "at call line {i}");
+    }
+    Ok(())
+}
+
+/// The name of the type at this place.
+fn type_name(alloc: Global, place: u8) -> Result<String, AllocError> {
+    let first = char::from(b'a' + place / 26);
+    let second = char::from(b'a' + place % 26);
+    format!(in alloc; "{first}{second}")
+}
+
+#[test]
+fn each_of_255_types_is_found_by_its_name(rt: HostRuntime) -> Result<(), Fail> {
+    let mut text = String::from_str(rt.alloc(), "moar-gc 1\nmutators 1\n")?;
+    for place in 0..255 {
+        let name = type_name(rt.alloc(), place)?;
+        writeln!(text, "type {name} 0 0")?;
+    }
+    for place in 0..255 {
+        let name = type_name(rt.alloc(), place)?;
+        writeln!(text, "0 new r0 {name}")?;
+    }
+    let script = read_script(rt.alloc(), text.as_bytes())?;
+    assert_eq!(rt; script.types().count(), 256);
+    assert_eq!(rt; script.count(), 255);
+    let into = Reg::make(0).ok_or("no register")?;
+    for place in 0..255 {
+        let call = Call::New {
+            into,
+            ty: TypeNo(place + 1),
+        };
+        let line = Line { mutator: 0, call };
+        assert_eq!(rt;
+            script.line(usize::from(place)),
+            Some(line),
+            "at type {place}"
+        );
+    }
+    Ok(())
+}
+
+// Lines are most of what a script takes.
+#[test]
+fn a_line_takes_at_most_40_bytes(rt: HostRuntime) {
+    assert!(rt; size_of::<Line>() <= 40);
 }
 
 #[test]

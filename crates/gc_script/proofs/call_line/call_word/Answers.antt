@@ -8,11 +8,6 @@ unfolding call_word
 returns-in-unblock c =
     let is : c.args.word.now ≡ codes "unblock" = text_from_reads _ (codes "unblock") (omega arith) (search rules) in rw is refl
 
-pub returns-in-collect : goal.returns-in-collect
-unfolding call_word
-returns-in-collect c =
-    let is : c.args.word.now ≡ codes "collect" = text_from_reads _ (codes "collect") (omega arith) (search rules) in rw is refl
-
 pub returns-in-safepoint : goal.returns-in-safepoint
 unfolding call_word
 returns-in-safepoint c =
