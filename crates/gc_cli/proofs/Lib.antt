@@ -1,7 +1,10 @@
-pub mod HeapLemmas
-pub mod HeapWorld
-pub mod HeapAnswers
-pub mod HeapFirst
-pub mod StreamLemmas
+pub mod HeapBays
+pub mod HeapFields
+pub mod HeapNames
+pub mod HeapNew
+pub mod HeapPlaces
+pub mod HeapShows
+pub mod HeapStores
+pub mod HeapWords
 pub mod PlayLemmas
-pub mod TellingLemmas
+pub mod StreamLemmas

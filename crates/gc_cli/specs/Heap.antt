@@ -1,28 +1,76 @@
--- How the words of the heap show a world. Nothing is collected yet: the objects stand one behind another in
--- the order in which they were made, the common object first, and all behind them is 0.
-use Rattle.std.specs.Prelude.{◌≡◌, ℕ, ◌+◌, ◌-◌, ◌<◌, ◌≤◌, List, ◌∷◌, ◌++◌, length, take, replicate, flat_map, sum_by, slice_index, All, Option, None, Some, false}
+-- How the words of the heap show a world, by an address for each object. Nothing is collected yet: each mutator's
+-- objects stand in its half 0, as far as that is used, and the common object at the start of page 0 of mutator 0.
+use Rattle.std.specs.Prelude.{◌≡◌, ℕ, ◌+◌, ◌<◌, ◌≤◌, List, ◌∷◌, ◌++◌, length, map, replicate, slice_index, slice_index_or, All, Option, None, Some, Bool, true, false}
 use Rattle.gc_layout.specs.declared.head.Head.{Head}
+use Rattle.gc_layout.specs.declared.places.Part.TheVariants.{Half, Page}
 use Rattle.gc_layout.specs.declared.shape.Shape.{Shape}
 use Rattle.gc_layout.specs.Head.{head_word}
-use Rattle.gc_model.specs.declared.call.Call.{Call}
+use Rattle.gc_layout.specs.Places.{Layout, IsWithinLimits, word_count}
+use Rattle.gc_layout.specs.Places as places
+use Rattle.gc_layout.specs.Types.{AreTypes}
+use Rattle.gc_model.specs.declared.reply.Reply.{Reply}
 use Rattle.gc_model.specs.Answer.{Answer, shape_at}
-use Rattle.gc_model.specs.Graph.{Object, Graph, object_at, object_size, made_words}
-use Rattle.gc_model.specs.Interim.{answer_to}
-use Rattle.gc_model.specs.World.{World, mutator_at, named_by, is_blocked}
+use Rattle.gc_model.specs.Graph.{Object, object_at, object_size, made_words}
+use Rattle.gc_model.specs.Laws.{IsSound}
+use Rattle.gc_model.specs.Plain.{at_slot, at_number}
+use Rattle.gc_model.specs.World.{World, named_by, is_blocked}
+use Rattle.gc_cli.specs.declared.heap.Bay.{Bay}
 use Rattle.gc_cli.specs.declared.heap.Heap.{Heap}
 
--- the header of an object that no collection has seen
-abbrev pub fresh_head : ℕ → Head
-fresh_head ty = record { ty = record { 0 = ty }; old = false; seen = false; remembered = false; marked = false }
+-- whether nobody made an object: then it lies in a page
+abbrev pub is_nobodys : Option ℕ → Bool
+is_nobodys None = true
+is_nobodys (Some maker) = false
 
--- the words of an object: its header, its forwarding word, its slots, which are all nothing so far, and its numbers
-abbrev pub object_words : Object → List ℕ
-object_words object = head_word (fresh_head object.ty) ∷ 0 ∷ replicate (length object.slots) 0 ++ object.numbers
+-- the header of an object that no collection has seen; an object in a page is old
+abbrev pub unseen_head : ℕ → Bool → Head
+unseen_head ty in_page =
+    record { ty = record { 0 = ty }; old = in_page; seen = false; remembered = false; marked = false }
 
--- the address of what a register names: the first object's address is 1, and 0 is nothing
-abbrev pub address_of : Graph → Option ℕ → ℕ
-address_of graph None = 0
-address_of graph (Some number) = 1 + sum_by object_size (take number graph)
+-- the header of an object of this maker: the common object alone is in a page
+abbrev pub head_of : ℕ → Option ℕ → Head
+head_of ty maker = unseen_head ty (is_nobodys maker)
+
+-- an address for each object, by its number
+abbrev pub Placement : Type 0
+Placement = List ℕ
+
+-- the address of what is named; 0 is nothing
+abbrev pub address_of : Placement → Option ℕ → ℕ
+address_of placement None = 0
+address_of placement (Some number) = slice_index placement number
+
+-- the words of an object: its header, its forwarding word, the addresses of what its slots name, and its numbers
+abbrev pub object_words : Placement → Object → List ℕ
+object_words placement object =
+    head_word (head_of object.ty object.maker) ∷ 0 ∷ map (address_of placement) object.slots ++ object.numbers
+
+-- words stand one behind another from an address on
+abbrev pub StandAt : List ℕ → ℕ → List ℕ → Type 0
+StandAt words address piece = (k : ℕ) → k < length piece → slice_index words (address + k) ≡ slice_index piece k
+
+-- where a mutator's objects begin: its half 0
+abbrev pub bump_start : Layout → ℕ → ℕ
+bump_start layout t = places.address_of layout t (Half 0 0)
+
+-- where the common object is: page 0 of mutator 0
+abbrev pub common_start : Layout → ℕ
+common_start layout = places.address_of layout 0 (Page 0 0)
+
+-- a mutator's part that has done nothing yet
+abbrev pub fresh_bay : Bay
+fresh_bay = record { used = 0; registers = replicate 16 0; blocked = false }
+
+-- a mutator's part of the heap
+abbrev pub bay_at : List Bay → ℕ → Bay
+bay_at bays t = slice_index_or bays t fresh_bay
+
+-- an object of this maker and of so many words lies at an address: in the used part of its maker's half, or, the
+-- common object, in its place
+abbrev pub LiesAt : Layout → List Bay → ℕ → Option ℕ → ℕ → Type 0
+LiesAt layout bays size None address = (size ≤ 64) × (address ≡ common_start layout)
+LiesAt layout bays size (Some t) address =
+    (t < layout.mutators) × ((offset : ℕ) × (offset + size ≤ (bay_at bays t).used) × (address ≡ bump_start layout t + offset))
 
 -- an object has its type's numbers of slots and of number fields
 pub record IsShaped (types : List Shape) (object : Object) : Type 0 where
@@ -30,39 +78,59 @@ pub record IsShaped (types : List Shape) (object : Object) : Type 0 where
   pub slots : length object.slots ≡ (shape_at types object.ty).slots
   pub numbers : length object.numbers ≡ (shape_at types object.ty).numbers
 
--- the words, of which so many are used, and the registers of the only mutator show the world, in a heap that
--- has room for the common object's 18 words and for a half, and whose types' numbers fit a header
-pub record Shows (types : List Shape) (half : ℕ) (words : List ℕ) (used : ℕ) (registers : List ℕ) (world : World) : Type 0 where
-  pub laid_out : words ≡ 0 ∷ flat_map object_words world.graph ++ replicate (18 + half - used) 0
-  pub counted : used ≡ sum_by object_size world.graph
-  pub made : used ≡ 18 + made_words world.graph 0
-  pub within : used ≤ 18 + half
+-- the words and the mutators' parts show the world by the placement
+pub record Shows (types : List Shape) (layout : Layout) (words : List ℕ) (bays : List Bay) (placement : Placement) (world : World) : Type 0 where
+  pub are_types : AreTypes types
+  pub limits : IsWithinLimits layout
+  pub long : length words ≡ 1 + word_count layout
+  pub eight : length bays ≡ 8
+  pub sixteen : (t : ℕ) → t < layout.mutators → length (bay_at bays t).registers ≡ 16
+  pub mutators : length world.mutators ≡ layout.mutators
+  pub sound : IsSound world
   pub shaped : All (IsShaped types) world.graph
-  pub held : (reg : ℕ) → slice_index registers reg ≡ address_of world.graph (named_by world 0 reg)
-  pub named : (reg number : ℕ) → named_by world 0 reg ≡ Some number → number < length world.graph
-  pub alone : length world.mutators ≡ 1
-  pub sixteen : length (mutator_at world 0).registers ≡ 16
-  pub able : is_blocked world 0 ≡ false
-  pub few : length types ≤ 256
+  pub common : ((object_at world.graph 0).maker ≡ None) × (length (object_at world.graph 0).slots ≡ 16)
+  pub placed : length placement ≡ length world.graph
+  pub written : (i : ℕ) → i < length world.graph → StandAt words (slice_index placement i) (object_words placement (object_at world.graph i))
+  pub lying : (i : ℕ) → i < length world.graph → LiesAt layout bays (object_size (object_at world.graph i)) (object_at world.graph i).maker (slice_index placement i)
+  pub apart : (i j k l : ℕ) → i < length world.graph → j < length world.graph → k < object_size (object_at world.graph i) → l < object_size (object_at world.graph j) → slice_index placement i + k ≡ slice_index placement j + l → i ≡ j
+  pub free : (t k : ℕ) → t < layout.mutators → (bay_at bays t).used ≤ k → k < layout.nursery → slice_index words (bump_start layout t + k) ≡ 0
+  pub used : (t : ℕ) → t < layout.mutators → ((bay_at bays t).used ≡ made_words world.graph t) × ((bay_at bays t).used ≤ layout.nursery)
+  pub held : (t reg : ℕ) → t < layout.mutators → slice_index (bay_at bays t).registers reg ≡ address_of placement (named_by world t reg)
+  pub blocked : (t : ℕ) → t < layout.mutators → (bay_at bays t).blocked ≡ is_blocked world t
+
+-- the heap shows the world by the placement
+abbrev pub ShowsBy : Heap → Placement → World → Type 0
+ShowsBy heap placement world = Shows heap.types.now heap.places heap.words.items heap.bays placement world
 
 -- the heap shows the world
 abbrev pub ShowsWorld : Heap → World → Type 0
-ShowsWorld heap world = Shows heap.types.now heap.half heap.words.items heap.used heap.registers world
+ShowsWorld heap world = (placement : Placement) × ShowsBy heap placement world
 
--- the graph's answer to a call of the only mutator
-abbrev pub answer_of : Heap → World → Call → Answer
-answer_of heap world call = answer_to heap.types.now heap.half world (record { mutator = 0; call = call })
+-- the heap's types and places stay
+pub record Stays (old new : Heap) : Type 0 where
+  pub types : new.types.now ≡ old.types.now
+  pub places : new.places ≡ old.places
 
--- in a world that the heap shows, the object's header has this address
-pub record IsObjectAt (heap : Heap) (address : ℕ) (world : World) (object : ℕ) : Type 0 where
-  pub shown : ShowsWorld heap world
+-- the reply is that of an answer, and the heap shows its world
+pub record Gives (heap : Heap) (reply : Reply) (answer : Answer) : Type 0 where
+  pub reply_is : answer.reply ≡ reply
+  pub shown : ShowsWorld heap answer.world
+
+-- the word of an object that is so many words behind its header has this address
+pub record IsWordOf (heap : Heap) (address : ℕ) (placement : Placement) (world : World) (object behind : ℕ) : Type 0 where
+  pub shown : ShowsBy heap placement world
   pub in_graph : object < length world.graph
-  pub found : address ≡ address_of world.graph (Some object)
+  pub inside : behind < object_size (object_at world.graph object)
+  pub found : address ≡ slice_index placement object + behind
 
--- in a world that the heap shows, the register names the object, and its number at this place has this address
-pub record IsNumberAt (heap : Heap) (address : ℕ) (world : World) (object base place : ℕ) : Type 0 where
-  pub shown : ShowsWorld heap world
-  pub named : named_by world 0 base ≡ Some object
-  pub in_graph : object < length world.graph
-  pub in_numbers : place < length (object_at world.graph object).numbers
-  pub found : address ≡ address_of world.graph (Some object) + (2 + length (object_at world.graph object).slots + place)
+-- a word of the object that a register names, in its slots; a call on that slot goes on
+pub record IsSlot (heap : Heap) (address : ℕ) (placement : Placement) (world : World) (object t base place : ℕ) : Type 0 where
+  pub word : IsWordOf heap address placement world object (2 + place)
+  pub within : place < length (object_at world.graph object).slots
+  pub goes_on : (next : ℕ → Answer) → at_slot world t base place next ≡ next object
+
+-- a word of the object that a register names, in its numbers; a call on that number goes on
+pub record IsNumber (heap : Heap) (address : ℕ) (placement : Placement) (world : World) (object t base place : ℕ) : Type 0 where
+  pub word : IsWordOf heap address placement world object (2 + length (object_at world.graph object).slots + place)
+  pub within : place < length (object_at world.graph object).numbers
+  pub goes_on : (next : ℕ → Answer) → at_number world t base place next ≡ next object

@@ -1,20 +1,12 @@
 -- What a run of the program read, played and printed.
-use Rattle.std.specs.Prelude.{◌≡◌, ℕ, ◌<◌, ◌≤◌, List, [], ◌++◌, length, Option, IfSome, Ok, Err}
+use Rattle.std.specs.Prelude.{◌≡◌, ℕ, ◌<◌, ◌≤◌, List, [], ◌++◌, length, Option, IfSome, false}
 use Rattle.gc_io.specs.Streams.{GivesUp, Appends, AppendsPrefix}
-use Rattle.gc_model.specs.declared.reply.Reply.{Reply}
-use Rattle.gc_model.specs.Interim.{replies_of}
-use Rattle.gc_model.specs.World.{first_world}
-use Rattle.gc_script.specs.Cut.{IsCutScript, IsCutFault}
-use Rattle.gc_script.specs.Fault.{cause_number}
-use Rattle.gc_script.specs.Grammar.{script_of}
-use Rattle.gc_script.specs.declared.fault.ScriptFault.TheVariants.{Bad}
+use Rattle.gc_model.specs.History.{Configuration, History, IsLegal, FitsScript, lines_in, ends_of}
+use Rattle.gc_script.specs.Grammar.{IsScript, IsFirstFault}
 use Rattle.gc_script.specs.Script.{Script}
+use Rattle.gc_script.specs.Text.{most_bytes}
 use Rattle.gc_cli.specs.declared.opts.Opts.{Opts}
 use Rattle.gc_cli.specs.Text.{text_of}
-
--- the most bytes of a script
-abbrev pub most_bytes : ℕ
-most_bytes = 16777216
 
 -- the source, whose rest was one and is another, was read to its end, and gave these bytes, no more than a
 -- script may have
@@ -23,29 +15,37 @@ pub record IsRead (old new : Option (List ℕ)) (bytes : List ℕ) : Type 0 wher
   pub ended : IfSome new (λ rest. rest ≡ [])
   pub few : length bytes ≤ most_bytes
 
--- the graph's replies to a script's lines, where a half of the heap has so many words
-abbrev pub graph_replies : ℕ → Script → List Reply
-graph_replies half script = replies_of script.preamble.types half (first_world script.preamble.mutators) script.lines
+-- the heap that a script is played on, by the options
+abbrev pub heap_for : Opts → Script → Configuration
+heap_for opts script =
+    record { types = script.preamble.types; mutators = script.preamble.mutators; nursery = opts.nursery; pages = opts.pages }
 
--- the source was read to its end, its bytes are this script, and the sink got the graph's replies by line number
-pub record Plays (half : ℕ) (rest_old rest_new written_old written_new : Option (List ℕ)) (bytes : List ℕ) (script : Script) : Type 0 where
+-- one history of the graph, in which the script's lines stand in the order of the text, and then each mutator's End
+-- in order of number
+pub record IsHistoryOf (opts : Opts) (script : Script) (history : History) : Type 0 where
+  pub legal : IsLegal (heap_for opts script) history
+  pub fits : FitsScript script.preamble.mutators script.lines history
+  pub in_order : lines_in history ≡ script.lines ++ ends_of script.preamble.mutators
+
+-- the source was read to its end, its bytes are this script, it was played by this history, and the sink got the
+-- replies of the history by line number
+pub record Plays (opts : Opts) (rest_old rest_new written_old written_new : Option (List ℕ)) (bytes : List ℕ) (script : Script) (history : History) : Type 0 where
   pub read : IsRead rest_old rest_new bytes
-  pub script_is : IsCutScript bytes script
-  pub printed : Appends written_old written_new (text_of script (graph_replies half script))
+  pub script_is : IsScript bytes script
+  pub played : IsHistoryOf opts script history
+  pub printed : Appends written_old written_new (text_of script history)
 
 -- as before, but the sink got only the first bytes of the text, maybe none
-pub record PlaysInPart (half : ℕ) (rest_old rest_new written_old written_new : Option (List ℕ)) (bytes : List ℕ) (script : Script) : Type 0 where
+pub record PlaysInPart (opts : Opts) (rest_old rest_new written_old written_new : Option (List ℕ)) (bytes : List ℕ) (script : Script) (history : History) : Type 0 where
   pub read : IsRead rest_old rest_new bytes
-  pub script_is : IsCutScript bytes script
-  pub printed : AppendsPrefix written_old written_new (text_of script (graph_replies half script))
+  pub script_is : IsScript bytes script
+  pub played : IsHistoryOf opts script history
+  pub printed : AppendsPrefix written_old written_new (text_of script history)
 
--- the source was read to its end, and its bytes are no script that can be played so far; the line and the cause
--- are those of the first fault, or, of a script, why it can't be played so far
+-- the source was read to its end, and its bytes are no script: its first fault has this line and this cause
 pub record IsNoScript (old new : Option (List ℕ)) (bytes : List ℕ) (line cause : ℕ) : Type 0 where
   pub read : IsRead old new bytes
-  pub refused : (script : Script) → ¬ IsCutScript bytes script
-  pub first : (fault : _) → script_of bytes ≡ Err fault → (line ≡ fault.line) × (cause ≡ cause_number fault.cause)
-  pub cut : (script : Script) → script_of bytes ≡ Ok script → IsCutFault script (Bad line cause)
+  pub first : IsFirstFault bytes line cause
 
 -- the source gave more bytes than a script may have
 pub record IsTooLong (old new : Option (List ℕ)) (bytes : List ℕ) : Type 0 where
@@ -67,6 +67,6 @@ pub record IsWithinLimits (opts : Opts) : Type 0 where
   pub some_pages : 1 ≤ opts.pages
   pub most_pages : opts.pages ≤ 128
 
--- the words of a half where no option says otherwise
-abbrev pub default_half : ℕ
-default_half = 4096
+-- the options where none is given
+abbrev pub default_opts : Opts
+default_opts = record { nursery = 4096; pages = 8; reports = false; summary = false }

@@ -2,6 +2,7 @@
 use Rattle.std.specs.Prelude.{ℕ, ◌+◌, List, [], ◌∷◌, ◌++◌, codes, decimal}
 use Rattle.gc_model.specs.declared.reply.Reply.{Reply}
 use Rattle.gc_model.specs.declared.reply.Reply.TheVariants.{Done, Full, Number, Yes, No, Found, Nil, NilBase, Range, Blocked, NotBlocked}
+use Rattle.gc_model.specs.History.{History, replies_by_line}
 use Rattle.gc_script.specs.Script.{Script, number_of_line}
 
 -- the text of a reply
@@ -28,5 +29,9 @@ lines_text number [] = []
 lines_text number (reply ∷ replies) = reply_line number reply ++ lines_text (number + 1) replies
 
 -- the replies to a script's lines, by line number
-abbrev pub text_of : Script → List Reply → List ℕ
-text_of script replies = lines_text (number_of_line script 0) replies
+abbrev pub replies_text : Script → List Reply → List ℕ
+replies_text script replies = lines_text (number_of_line script 0) replies
+
+-- the replies to a script's lines in a history, by line number
+abbrev pub text_of : Script → History → List ℕ
+text_of script history = replies_text script (replies_by_line history [] script.lines)

@@ -1,181 +1,214 @@
-ghost use Rattle.std.specs.Prelude.{◌≡◌, ◌+◌, ◌<◌, ◌≤◌, ◌^◌, ℕ, length, IfOk, IfErr};
-ghost use Rattle.gc_model.specs.Answer.{Suits, shape_at, keeps};
-ghost use Rattle.gc_model.specs.Graph.{object_at};
-ghost use Rattle.gc_model.specs.Interim.{IsBuilt, answer_to};
-ghost use Rattle.gc_model.specs.World.{World, first_world};
-ghost use Rattle.gc_model.specs.declared.call.Call.TheVariants.{New, Ask, Set};
-ghost use Rattle.gc_cli.specs.Heap.{ShowsWorld, IsObjectAt, IsNumberAt, answer_of, fresh_head};
+ghost use Rattle.std.specs.Prelude.{◌≡◌, ◌<◌, ℕ, Bool, length, slice_index, slice_set, IfOk};
 ghost use Rattle.gc_layout.specs.Head.{head_word};
+ghost use Rattle.gc_model.specs.Answer.{IsFit, Suits, answer, effect, shape_at};
+ghost use Rattle.gc_model.specs.Graph.{object_at};
+ghost use Rattle.gc_model.specs.Interim.{IsBuilt, answer_to, has_room};
+ghost use Rattle.gc_model.specs.Plain.{unless_refused};
+ghost use Rattle.gc_model.specs.World.{World, first_world};
+ghost use Rattle.gc_model.specs.declared.call.Call.TheVariants.{New};
+ghost use Rattle.gc_cli.specs.Heap.{Placement, ShowsBy, ShowsWorld, Stays, Gives, IsWordOf, unseen_head};
 
-use gc_layout::{Head, NoMemory, Shape, TypeNo, Types};
+mod fields;
+mod registers;
+
+use gc_layout::{Head, NoMemory, Places, Shape, TypeNo, Types};
 use gc_model::{Call, Line, Reg, Reply};
 use std::alloc::Global;
 
-/// How many registers the mutator has.
+/// How many registers a mutator has.
 const REGISTERS: usize = 16;
 
-/// The words of the common object, which stands first.
-const COMMON_WORDS: usize = 18;
+/// The most mutators.
+const MOST_MUTATORS: usize = 8;
 
-/// A heap of one mutator that collects nothing: its words, of which word 0 is never used, how many are
-/// used behind it, and the addresses that the registers hold, 0 for nothing.
+/// What a mutator has of the heap beside the words: how many words of its half are used, the addresses that
+/// its registers hold, 0 for nothing, and whether it is blocked.
+#[derive(Clone, Copy, Debug)]
+pub(crate) struct Bay {
+    used: usize,
+    registers: [u64; REGISTERS],
+    blocked: bool,
+}
+
+impl Bay {
+    /// A mutator that has done nothing yet.
+    const FRESH: Bay = Bay {
+        used: 0,
+        registers: [0; REGISTERS],
+        blocked: false,
+    };
+}
+
+/// A heap that collects nothing. Word 0 is never used, so that addresses are indices; each mutator allocates
+/// in its half 0, and the common object stands at the start of page 0 of mutator 0.
 #[derive(Drop)]
 pub(crate) struct Heap<'a> {
     types: &'a Types,
-    half: usize,
+    places: Places,
     words: Vec<u64>,
-    used: usize,
-    registers: [u64; REGISTERS],
+    bays: [Bay; MOST_MUTATORS],
 }
 
 impl<'a> Heap<'a> {
-    /// The heap with the common object alone. A half has so many words.
-    pub(crate) fn make(alloc: Global, types: &'a Types, half: u32) -> Result<Heap<'a>, NoMemory>
-        ensures { IfOk result (λ heap. (heap.types ≡ types.entry) × (heap.half ≡ half)
-            × ShowsWorld heap (first_world 1)) }
+    /// The heap with the common object alone: all registers are nothing and nobody is blocked.
+    pub(crate) fn make(
+        alloc: Global,
+        types: &'a Types,
+        places: Places,
+    ) -> Result<Heap<'a>, NoMemory>
+        ensures { IfOk result (λ heap. (heap.types ≡ types.entry) × (heap.places ≡ places)
+            × ShowsWorld heap (first_world places.mutators)) }
     {
-        let half = half as usize;
-        let Ok(mut words) = vec![in alloc; 0; 1 + COMMON_WORDS + half] else {
+        let Ok(mut words) = vec![in alloc; 0; 1 + places.words() as usize] else {
             return Err(NoMemory);
         };
-        words[1] = fresh_head(TypeNo(0));
+        let common = places.page_start(0, 0) as usize;
+        words[common] = header(TypeNo(0), true);
         // The count says that type 0 is the common object's.
         let _count = types.count();
         Ok(Heap {
             types,
-            half,
+            places,
             words,
-            used: COMMON_WORDS,
-            registers: [0; REGISTERS],
+            bays: [Bay::FRESH; MOST_MUTATORS],
         })
     }
 
-    /// Makes a call of the mutator, which is a New, a Set or an Ask of a known type. Whatever world the heap
-    /// shows, the reply is the graph's, and the heap shows the graph's world afterwards.
+    /// Makes a line's call, which isn't a Collect. Whatever world the heap shows, the reply is the graph's, and
+    /// the heap shows the graph's world afterwards.
     pub(crate) fn call(&mut self, line: &Line) -> Reply
         requires shown { (world : World) × ShowsWorld self.old world }
-        requires mutator { line.now.mutator ≡ 0 }
+        requires fit { IsFit self.old.types.now self.old.places.mutators line.now.mutator line.now.call }
         requires built { IsBuilt line.now.call }
-        requires known { Suits (length self.old.types.now) line.now.call }
-        ensures types { self.new.types ≡ self.old.types }
-        ensures half { self.new.half ≡ self.old.half }
-        ensures reply { (world : World) → ShowsWorld self.old world
-            → result ≡ (answer_to self.old.types.now self.old.half world line.now).reply }
-        ensures world { (world : World) → ShowsWorld self.old world
-            → ShowsWorld self.new (answer_to self.old.types.now self.old.half world line.now).world }
+        ensures stays { Stays self.old self.new }
+        ensures answered { (world : World) → ShowsWorld self.old world
+            → Gives self.new result (answer_to self.old.types.now self.old.places.nursery world line.now) }
     {
-        match line.call {
-            Call::New { into, ty } => self.make_object(into, ty),
-            Call::Ask { base, place } => self.ask(base, place),
+        match self.refusal(line.mutator, &line.call) {
+            Some(refusal) => refusal,
+            None => self.make_call(line.mutator, &line.call),
+        }
+    }
+
+    /// The refusal for being blocked, or for not being blocked.
+    fn refusal(&self, t: u8, call: &Call) -> Option<Reply>
+        requires shown { (world : World) × ShowsWorld self.now world }
+        requires mutator { t < self.now.places.mutators }
+        ensures { (placement : Placement) (world : World) (room : Bool) → ShowsBy self.now placement world
+            → answer self.now.types.now world t call.now room
+            ≡ unless_refused world result (effect self.now.types.now world t room call.now) }
+    {
+        match (self.is_blocked(t), call) {
+            (true, Call::Unblock | Call::End) => None,
+            (true, _) => Some(Reply::Blocked),
+            (false, Call::Unblock) => Some(Reply::NotBlocked),
+            (false, _) => None,
+        }
+    }
+
+    /// Makes a call that being blocked doesn't stand against.
+    fn make_call(&mut self, t: u8, call: &Call) -> Reply
+        requires shown { (world : World) × ShowsWorld self.old world }
+        requires mutator { t < self.old.places.mutators }
+        requires suits { Suits (length self.old.types.now) call.now }
+        requires built { IsBuilt call.now }
+        ensures stays { Stays self.old self.new }
+        ensures answered { (placement : Placement) (world : World) → ShowsBy self.old placement world
+            → Gives self.new result (effect self.old.types.now world t
+            (has_room self.old.types.now self.old.places.nursery world t call.now) call.now) }
+    {
+        match *call {
+            Call::New { into, ty } => self.make_object(t, into, ty),
+            Call::Get { into, base, place } => self.get(t, into, base, place),
+            Call::Put { base, place, value } => self.put(t, base, place, value),
+            Call::Ask { base, place } => self.ask(t, base, place),
             Call::Set {
                 base,
                 place,
                 number,
-            } => self.set(base, place, number),
-            _ => unreachable!(),
+            } => self.set(t, base, place, number),
+            Call::SwapIf {
+                base,
+                place,
+                expected,
+                replacement,
+            } => self.swap_if(t, base, place, expected, replacement),
+            Call::Same { left, right } => self.same(t, left, right),
+            Call::CopyReg { into, source } => self.copy(t, into, source),
+            Call::ClearReg { reg } => self.clear(t, reg),
+            Call::Share { place, value } => self.share(t, place, value),
+            Call::Take { into, place } => self.take(t, into, place),
+            Call::Await { into, place } => self.take(t, into, place),
+            Call::Safepoint => Reply::Done,
+            Call::Block => self.set_blocked(t, true),
+            Call::Unblock => self.set_blocked(t, false),
+            Call::End => self.end(t),
+            Call::Collect => unreachable!(),
         }
     }
 
-    /// Makes an object behind all others.
-    fn make_object(&mut self, into: Reg, ty: TypeNo) -> Reply
+    /// Makes an object behind the mutator's others, where its half has room.
+    fn make_object(&mut self, t: u8, into: Reg, ty: TypeNo) -> Reply
         requires shown { (world : World) × ShowsWorld self.old world }
+        requires mutator { t < self.old.places.mutators }
         requires known { ty.0 < length self.old.types.now }
-        ensures types { self.new.types ≡ self.old.types }
-        ensures half { self.new.half ≡ self.old.half }
-        ensures reply { (world : World) → ShowsWorld self.old world
-            → result ≡ (answer_of self.old world (New into ty)).reply }
-        ensures world { (world : World) → ShowsWorld self.old world
-            → ShowsWorld self.new (answer_of self.old world (New into ty)).world }
+        ensures stays { Stays self.old self.new }
+        ensures answered { (placement : Placement) (world : World) → ShowsBy self.old placement world
+            → Gives self.new result (effect self.old.types.now world t
+            (has_room self.old.types.now self.old.places.nursery world t (New into ty)) (New into ty)) }
     {
         let size = self.types.shape(ty).unwrap().size() as usize;
-        if self.used + size > COMMON_WORDS + self.half {
+        let used = self.bays[usize::from(t)].used;
+        if used + size > self.places.nursery() as usize {
             return Reply::Full;
         }
-        let address = 1 + self.used;
-        self.words[address] = fresh_head(ty);
-        self.used += size;
-        self.registers[usize::from(into.index())] = address as u64;
+        let address = self.places.half_start(t, 0) as usize + used;
+        self.words[address] = header(ty, false);
+        let place = usize::from(into.index());
+        let bay = &mut self.bays[usize::from(t)];
+        bay.used = used + size;
+        bay.registers[place] = address as u64;
         Reply::Done
-    }
-
-    /// Reads a number.
-    fn ask(&self, base: Reg, place: u8) -> Reply
-        requires { (world : World) × ShowsWorld self.now world }
-        ensures { (world : World) → ShowsWorld self.now world
-            → answer_of self.now world (Ask base place) ≡ keeps world result }
-    {
-        match self.find_number(base, place) {
-            Ok(address) => Reply::Number(self.words[address]),
-            Err(refusal) => refusal,
-        }
-    }
-
-    /// Writes a number.
-    fn set(&mut self, base: Reg, place: u8, number: u64) -> Reply
-        requires { (world : World) × ShowsWorld self.old world }
-        ensures types { self.new.types ≡ self.old.types }
-        ensures half { self.new.half ≡ self.old.half }
-        ensures reply { (world : World) → ShowsWorld self.old world
-            → result ≡ (answer_of self.old world (Set base place number)).reply }
-        ensures world { (world : World) → ShowsWorld self.old world
-            → ShowsWorld self.new (answer_of self.old world (Set base place number)).world }
-    {
-        match self.find_number(base, place) {
-            Ok(address) => {
-                self.words[address] = number;
-                Reply::Done
-            }
-            Err(refusal) => refusal,
-        }
-    }
-
-    /// The address of a number of the object that a register names, or the refusal of an Ask and a Set.
-    fn find_number(&self, base: Reg, place: u8) -> Result<usize, Reply>
-        requires { (world : World) × ShowsWorld self.now world }
-        ensures found { IfOk result (λ address. (world : World) → ShowsWorld self.now world
-            → (object : ℕ) × IsNumberAt self.now address world object base place) }
-        ensures ask { IfErr result (λ refusal. (world : World) → ShowsWorld self.now world
-            → answer_of self.now world (Ask base place) ≡ keeps world refusal) }
-        ensures set { IfErr result (λ refusal. (world : World) (number : ℕ) → ShowsWorld self.now world
-            → answer_of self.now world (Set base place number) ≡ keeps world refusal) }
-    {
-        let address = self.registers[usize::from(base.index())] as usize;
-        if address == 0 {
-            return Err(Reply::NilBase);
-        }
-        let shape = self.shape_at(address);
-        if place >= shape.numbers {
-            return Err(Reply::Range);
-        }
-        Ok(number_address(address, shape, place))
     }
 
     /// The shape of the object whose header word has this address.
     fn shape_at(&self, address: usize) -> Shape
-        requires { (world : World) × (object : ℕ) × IsObjectAt self.now address world object }
-        ensures { (world : World) (object : ℕ) → IsObjectAt self.now address world object
+        requires { (placement : Placement) × (world : World) × (object : ℕ)
+            × IsWordOf self.now address placement world object 0 }
+        ensures { (placement : Placement) (world : World) (object : ℕ)
+            → IsWordOf self.now address placement world object 0
             → result ≡ shape_at self.now.types.now (object_at world.graph object).ty }
     {
-        let head = Head::of_word(self.words[address]).unwrap();
+        let head = Head::of_word(self.word(address)).unwrap();
         self.types.shape(head.ty).unwrap()
+    }
+
+    /// The word of this address.
+    fn word(&self, address: usize) -> u64
+        requires { address < length self.now.words.items }
+        ensures { result ≡ slice_index self.now.words.items address }
+    {
+        self.words[address]
+    }
+
+    /// Stores the word of this address.
+    fn store(&mut self, address: usize, word: u64)
+        requires { address < length self.old.words.items }
+        ensures stays { Stays self.old self.new }
+        ensures words { self.new.words.items ≡ slice_set self.old.words.items address word }
+        ensures bays { self.new.bays ≡ self.old.bays }
+    {
+        self.words[address] = word;
     }
 }
 
-/// The address of a number in the object whose header word has this address.
-fn number_address(address: usize, shape: Shape, place: u8) -> usize
-    requires { address < 2 ^ 63 }
-    ensures { result ≡ address + (2 + shape.slots + place) }
-{
-    address + 2 + usize::from(shape.slots) + usize::from(place)
-}
-
-/// The header of an object that no collection has seen.
-fn fresh_head(ty: TypeNo) -> u64
-    ensures { result ≡ head_word (fresh_head ty.0) }
+/// The header of an object that no collection has seen. An object in a page is old.
+fn header(ty: TypeNo, in_page: bool) -> u64
+    ensures { result ≡ head_word (unseen_head ty.0 in_page) }
 {
     let head = Head {
         ty,
-        old: false,
+        old: in_page,
         seen: false,
         remembered: false,
         marked: false,

@@ -3,7 +3,7 @@ ghost use Rattle.gc_io.specs.Faults.{HasRisen};
 ghost use Rattle.gc_io.specs.Streams.{Appends, AppendsPrefix};
 ghost use Rattle.gc_model.specs.declared.reply.Reply.{Reply as GraphReply};
 ghost use Rattle.gc_script.specs.Script.{number_of_line};
-ghost use Rattle.gc_cli.specs.Text.{text_of, reply_line};
+ghost use Rattle.gc_cli.specs.Text.{replies_text, reply_line};
 
 use crate::text::reply_line;
 use gc_io::{Put, Sink};
@@ -15,10 +15,10 @@ use gc_script::Script;
 pub(crate) fn write_replies<K: Sink>(script: &Script, replies: &[Reply], out: &mut K) -> Put
     requires { length replies.now ≡ length script.now.lines }
     ensures all { result ≡ Put.All
-        → Appends (K.written out.old) (K.written out.new) (text_of script.now replies.now) }
+        → Appends (K.written out.old) (K.written out.new) (replies_text script.now replies.now) }
     ensures failed { result ≡ Put.Failed → HasRisen (K.faults out.old) (K.faults out.new) }
     ensures part { result ≡ Put.Failed
-        → AppendsPrefix (K.written out.old) (K.written out.new) (text_of script.now replies.now) }
+        → AppendsPrefix (K.written out.old) (K.written out.new) (replies_text script.now replies.now) }
     ensures never_falls { K.faults out.old ≤ K.faults out.new }
 {
     for place in 0..replies.len() {

@@ -1,11 +1,12 @@
 ghost use Rattle.std.specs.Prelude.{◌≡◌, ◌≢◌, ◌≤◌, ◌↔◌, ℕ, List, None, map, string_bytes, IfOk, IfErr};
 ghost use Rattle.gc_io.specs.Faults.{HasRisen};
 ghost use Rattle.gc_io.specs.Streams.{Appends, AppendsPrefix};
-ghost use Rattle.gc_script.specs.Cut.{IsCutScript};
+ghost use Rattle.gc_model.specs.History.{History};
+ghost use Rattle.gc_script.specs.Grammar.{IsScript};
 ghost use Rattle.gc_script.specs.Script.{Script as Text};
 ghost use Rattle.gc_cli.specs.Causes.{HasNoScript};
 ghost use Rattle.gc_cli.specs.Command.{request_of, status_line};
-ghost use Rattle.gc_cli.specs.Played.{IsRead, IsTooLong, IsNoScript, Plays, PlaysInPart, IsWithinLimits, default_half};
+ghost use Rattle.gc_cli.specs.Played.{IsRead, IsTooLong, IsNoScript, Plays, PlaysInPart, IsWithinLimits, default_opts};
 
 use crate::command::{Request, request_of};
 use crate::input::{InputFault, read_input};
@@ -19,7 +20,7 @@ use std::alloc::Global;
 
 /// Reads a script from a source that is read to its end.
 fn read_source<S: Source>(alloc: Global, src: &mut S) -> Result<Script, Status>
-    ensures script { IfOk result (λ script. (bytes : List ℕ) × IsRead (S.rest src.old) (S.rest src.new) bytes × IsCutScript bytes script) }
+    ensures script { IfOk result (λ script. (bytes : List ℕ) × IsRead (S.rest src.old) (S.rest src.new) bytes × IsScript bytes script) }
     ensures fault { IfErr result (λ status. HasNoScript status (S.rest src.old) (S.rest src.new) (S.faults src.old) (S.faults src.new)) }
     ensures never_falls { S.faults src.old ≤ S.faults src.new }
 {
@@ -37,8 +38,8 @@ fn read_source<S: Source>(alloc: Global, src: &mut S) -> Result<Script, Status>
     }
 }
 
-/// Reads a script, plays its lines in the order of the text and writes the replies by line number. It
-/// waits for nobody. A half of the heap has `nursery` words.
+/// Reads a script, plays its lines in the order of the text, and then each mutator's End, and writes the replies
+/// by line number. It waits for nobody. A half of the heap has `nursery` words.
 pub fn play_bytes<S: Source, K: Sink>(
     alloc: Global,
     opts: &Opts,
@@ -47,10 +48,11 @@ pub fn play_bytes<S: Source, K: Sink>(
 ) -> Outcome
     requires { IsWithinLimits opts.now }
 
-    // The source was read to its end, its bytes are a script, and the sink got the graph's replies.
+    // The source was read to its end, its bytes are a script, and the sink got the replies of a legal history
+    // that fits the script.
     ensures done { result.status ≡ Status.Done
-        → ((bytes : List ℕ) × (script : Text) × Plays opts.now.nursery (S.rest src.old) (S.rest src.new)
-        (K.written out.old) (K.written out.new) bytes script) }
+        → ((bytes : List ℕ) × (script : Text) × (history : History) × Plays opts.now (S.rest src.old) (S.rest src.new)
+        (K.written out.old) (K.written out.new) bytes script history) }
 
     // Each other status has its cause; want of memory is free.
     ensures no_usage { result.status ≢ Status.Usage }
@@ -61,8 +63,8 @@ pub fn play_bytes<S: Source, K: Sink>(
         → ((bytes : List ℕ) × IsNoScript (S.rest src.old) (S.rest src.new) bytes line cause) }
     ensures write_fault { result.status ≡ Status.WriteFault → HasRisen (K.faults out.old) (K.faults out.new) }
     ensures write_part { result.status ≡ Status.WriteFault
-        → ((bytes : List ℕ) × (script : Text) × PlaysInPart opts.now.nursery (S.rest src.old) (S.rest src.new)
-        (K.written out.old) (K.written out.new) bytes script) }
+        → ((bytes : List ℕ) × (script : Text) × (history : History) × PlaysInPart opts.now (S.rest src.old) (S.rest src.new)
+        (K.written out.old) (K.written out.new) bytes script history) }
 
     // Unless something was played and written, the sink is as before.
     ensures untouched { result.status ≢ Status.Done → result.status ≢ Status.WriteFault → out.new ≡ out.old }
@@ -74,7 +76,7 @@ pub fn play_bytes<S: Source, K: Sink>(
         Ok(script) => script,
         Err(status) => return Outcome::nothing_left(status),
     };
-    let Ok(replies) = play(alloc, &script, opts.nursery) else {
+    let Ok(replies) = play(alloc, opts, &script) else {
         return Outcome::nothing_left(Status::NoMemory);
     };
     match write_replies(&script, replies.as_slice(), out) {
@@ -95,10 +97,11 @@ pub fn moar_gc<R, S: Source, K: Sink, E: Sink, G: Gate + Sync>(
     err: &mut E,
     _gate: &G,
 ) -> Outcome
-    // The source was read to its end, its bytes are a script, and the sink got the graph's replies.
+    // The source was read to its end, its bytes are a script, and the sink got the replies of a legal history
+    // that fits the script.
     ensures done { result.status ≡ Status.Done
-        → ((bytes : List ℕ) × (script : Text) × Plays default_half (S.rest src.old) (S.rest src.new)
-        (K.written out.old) (K.written out.new) bytes script) }
+        → ((bytes : List ℕ) × (script : Text) × (history : History) × Plays default_opts (S.rest src.old) (S.rest src.new)
+        (K.written out.old) (K.written out.new) bytes script history) }
 
     // Each other status has its cause; want of memory is free.
     ensures usage { (result.status ≡ Status.Usage) ↔ (request_of (map string_bytes args.now) ≡ None) }
@@ -110,8 +113,8 @@ pub fn moar_gc<R, S: Source, K: Sink, E: Sink, G: Gate + Sync>(
         → ((bytes : List ℕ) × IsNoScript (S.rest src.old) (S.rest src.new) bytes line cause) }
     ensures write_fault { result.status ≡ Status.WriteFault → HasRisen (K.faults out.old) (K.faults out.new) }
     ensures write_part { result.status ≡ Status.WriteFault
-        → ((bytes : List ℕ) × (script : Text) × PlaysInPart default_half (S.rest src.old) (S.rest src.new)
-        (K.written out.old) (K.written out.new) bytes script) }
+        → ((bytes : List ℕ) × (script : Text) × (history : History) × PlaysInPart default_opts (S.rest src.old) (S.rest src.new)
+        (K.written out.old) (K.written out.new) bytes script history) }
 
     // Unless something was played and written, the sink is as before.
     ensures untouched { result.status ≢ Status.Done → result.status ≢ Status.WriteFault → out.new ≡ out.old }

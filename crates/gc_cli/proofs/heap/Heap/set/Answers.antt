@@ -1,21 +1,22 @@
-use Rattle.std.proofs.Common.{arith, set, sym, ap, subst}
-use Rattle.gc_model.specs.World.{World}
-use Rattle.gc_cli.specs.Heap.{Shows}
-use Rattle.gc_cli.proofs.HeapWorld.{number_at, shows_number}
-use Rattle.gc_cli.proofs.HeapAnswers.{set_number}
+use Rattle.std.proofs.Common.{ℕ, refl}
+use Rattle.gc_model.specs.Answer.{does}
+use Rattle.gc_model.specs.World.{with_number}
+use Rattle.gc_cli.proofs.HeapNames.{word_inside}
+use Rattle.gc_cli.proofs.HeapStores.{gives_as, gives_kept, number_stored}
 use Rattle.gc_cli.proofs.heap.Heap.set.Goals as goal
 
-pub index_mut-requires : goal.index_mut-requires
-index_mut-requires c =
-    let world = c.requires.0 in
-    let object = c.in-Ok.ensures.found world c.requires.1 in
-    let number = number_at c.args.self.now c.in-Ok.address world object.0 c.args.base c.args.place object.1 in
-    omega (arith, number.0)
+pub store-requires : goal.store-requires
+store-requires c =
+    let at = c.in-Ok.ensures.found c.requires.shown.1.0 c.requires.shown.0 c.requires.shown.1.1 in
+    word_inside c.args.self.now c.in-Ok.address c.requires.shown.1.0 c.requires.shown.0 at.0 _ at.1.word
 
-pub returns-in-Ok-clause-world : goal.returns-in-Ok-clause-world
-returns-in-Ok-clause-world c world shown =
-    let heap = c.args.self.now in
-    let object = c.in-Ok.ensures.found world shown in
-    let done = set_number heap.types.now heap.half world c.args.base c.args.place c.args.number object.0 shown.able object.1.named object.1.in_numbers in
-    let In : World → Type 0 = λ w. Shows heap.types.now heap.half (set heap.words.items c.in-Ok.address c.args.number) heap.used heap.registers w in
-    subst In (sym (ap (λ answer. answer.world) done)) (shows_number heap c.in-Ok.address world object.0 c.args.base c.args.place c.args.number object.1)
+pub returns-in-Ok-clause-answered : goal.returns-in-Ok-clause-answered
+returns-in-Ok-clause-answered c placement world shown =
+    let at = c.in-Ok.ensures.found placement world shown in
+    gives_as _ _ _ _ (at.1.goes_on (λ (number : ℕ). does (with_number world number c.args.place c.args.number)))
+    (record { reply_is = refl; shown = (placement, number_stored c.args.self.now c.store.new.self c.in-Ok.address placement world at.0 c.args.place c.args.number at.1.word at.1.within c.store.ensures.stays c.store.ensures.words c.store.ensures.bays) })
+
+pub returns-in-Err-clause-answered : goal.returns-in-Err-clause-answered
+returns-in-Err-clause-answered c placement world shown =
+    gives_as _ _ _ _ (c.in-Err.ensures.refused placement world (λ (number : ℕ). does (with_number world number c.args.place c.args.number)) shown)
+    (gives_kept c.args.self.now placement world _ shown)

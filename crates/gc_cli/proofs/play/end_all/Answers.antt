@@ -1,0 +1,35 @@
+use Rattle.std.proofs.Common.{◌≡◌, ℕ, ◌∙◌, ap, subst, fold, arith}
+use Rattle.gc_layout.specs.Places.{Layout}
+use Rattle.gc_model.specs.declared.call.Call.TheVariants.{End}
+use Rattle.gc_model.specs.declared.call.Line.{Line}
+use Rattle.gc_model.specs.History.{ends_of}
+use Rattle.gc_model.specs.Interim.{answer_to}
+use Rattle.gc_cli.specs.Heap.{ShowsWorld}
+use Rattle.gc_cli.proofs.PlayLemmas.{ends-next, gives-same}
+use Rattle.gc_cli.proofs.play.end_all.Goals as goal
+
+pub call-requires-clause-shown : goal.call-requires-clause-shown
+call-requires-clause-shown c = (_, c.loop-mutator.invariant.ended c.requires.shown.0 c.requires.shown.1)
+
+pub loop-mutator-preserved : goal.loop-mutator-preserved
+loop-mutator-preserved c =
+    let kept = c.loop-mutator.invariant in
+    let types = c.args.heap.now.types.now in
+    let nursery = c.args.heap.now.places.nursery in
+    record {
+      stays = record { types = c.call.ensures.stays.types ∙ kept.stays.types; places = c.call.ensures.stays.places ∙ kept.stays.places };
+      ended = λ world shown.
+          let before = kept.ended world shown in
+          let half = ap (λ (layout : Layout). layout.nursery) kept.stays.places in
+          let so_far = fold (λ before line. (answer_to types nursery before line).world) world (ends_of c.loop-mutator.mutator) in
+          let line : Line = record { mutator = c.loop-mutator.mutator; call = End } in
+          let after = gives-same c.call.new.self c.call.result c.loop-mutator.heap.types.now types c.loop-mutator.heap.places.nursery nursery so_far line kept.stays.types half (c.call.ensures.answered so_far before) in
+          rw (ends-next types nursery world c.loop-mutator.mutator) after.shown;
+    }
+
+pub returns-clause-ended : goal.returns-clause-ended
+returns-clause-ended c world shown =
+    let e : c.loop-mutator.mutator ≡ c.args.mutators = omega (arith, c.loop-mutator-test.false, c.loop-mutator.auto.mutator-end) in
+    let types = c.args.heap.now.types.now in
+    let nursery = c.args.heap.now.places.nursery in
+    subst (λ (n : ℕ). ShowsWorld c.loop-mutator.heap (fold (λ before line. (answer_to types nursery before line).world) world (ends_of n))) e (c.loop-mutator.invariant.ended world shown)
