@@ -4,13 +4,16 @@
 //! A row is data: a name that says what it shows, the script, the words, the output, the line on standard
 //! error and the status, and where wanted the calls of the source and of the output that fail. All values
 //! are worked out by hand from the rules. A row is added by adding its data to the table in the tests. In
-//! memory all bytes are told, so the theorem of the top call speaks of them plainly.
+//! memory all bytes are told, so the theorem of the top call speaks of them plainly. Beside the rows stands
+//! the plain graph: scripts are played on it too, and it is to give the replies that the program prints.
 #![tactic(auto)]
 
 mod memory;
 
 pub use memory::run_in_memory;
 
+#[cfg(test)]
+mod graph;
 #[cfg(test)]
 mod row;
 #[cfg(test)]

@@ -1,8 +1,9 @@
 ghost use Rattle.std.specs.Prelude.{◌≡◌, ℕ, ◌++◌, ◌↔◌, None, map, string_bytes};
-ghost use Rattle.gc_script.specs.Cut.{IsCutScript};
+ghost use Rattle.gc_model.specs.History.{History};
+ghost use Rattle.gc_script.specs.Grammar.{IsScript, IsFirstFault};
 ghost use Rattle.gc_script.specs.Script.{Script};
 ghost use Rattle.gc_cli.specs.Command.{request_of};
-ghost use Rattle.gc_cli.specs.Played.{graph_replies, default_half};
+ghost use Rattle.gc_cli.specs.Played.{IsHistoryOf, default_opts};
 ghost use Rattle.gc_cli.specs.Text.{text_of};
 
 use gc_cli::{Outcome, Status, moar_gc};
@@ -18,13 +19,15 @@ pub fn run_in_memory<R>(
     out: &mut MemorySink,
     err: &mut MemorySink,
 ) -> Outcome
-    // Where it is done, all that the source had is a script, and the output has got the graph's replies.
+    // Where it is done, all that the source had is a script, and the output has got the replies of a legal
+    // history that fits it.
     ensures done { result.status ≡ Status.Done
-        → ((script : Script) × IsCutScript src.old.rest script
-        × (out.new.written ≡ out.old.written ++ text_of script (graph_replies default_half script))) }
-    // A script is refused only where all that the source had is none.
+        → ((script : Script) × (history : History) × IsScript src.old.rest script
+        × IsHistoryOf default_opts script history
+        × (out.new.written ≡ out.old.written ++ text_of script history)) }
+    // A script is refused only where all that the source had is none, and with its first fault.
     ensures bad { (line cause : ℕ) → result.status ≡ Status.Bad line cause
-        → (script : Script) → ¬ IsCutScript src.old.rest script }
+        → IsFirstFault src.old.rest line cause }
     // Usage is answered exactly where the words are no command line.
     ensures usage { (result.status ≡ Status.Usage) ↔ (request_of (map string_bytes words.now) ≡ None) }
 {

@@ -1,7 +1,13 @@
+ghost use Rattle.std.specs.Prelude.{◌≤◌};
+
 use crate::run_in_memory;
-use gc_io::{MemorySink, MemorySource};
+use gc_cli::{Opts, Status, play_bytes};
+use gc_io::{MemorySink, MemorySource, SteadySource};
 use std::process::Abort;
 use std::test::Fail;
+
+/// The most bytes that a script prints here.
+const MOST_PRINTED: usize = 65_536;
 
 /// The words of most rows.
 const PLAY: &[&str] = &["play"];
@@ -99,7 +105,7 @@ impl Row {
         assert!(rt; self.step > 0, "the step of {}", self.name);
         let script = self.script.as_bytes().to_vec(alloc)?;
         let mut src = MemorySource::make(script, self.step, self.failing_reads.to_vec(alloc)?);
-        let mut out = MemorySink::make(alloc, 65_536, self.failing_writes.to_vec(alloc)?)?;
+        let mut out = MemorySink::make(alloc, MOST_PRINTED, self.failing_writes.to_vec(alloc)?)?;
         let mut err = MemorySink::make(alloc, 256, Vec::new(alloc))?;
         let outcome = run_in_memory(rt, alloc, words.as_slice(), &mut src, &mut out, &mut err);
         let code = outcome.status.code();
@@ -118,4 +124,26 @@ impl Row {
         );
         Ok(())
     }
+}
+
+/// What a script that is played to its end prints, where a half has so many words.
+pub fn printed<R: Abort + AllocGlobal>(
+    rt: &R,
+    name: &str,
+    script: &[u8],
+    half: u32,
+) -> Result<MemorySink, Fail>
+    requires least { 64 ≤ half }
+    requires most { half ≤ 65536 }
+{
+    let alloc = rt.alloc();
+    let opts = Opts {
+        nursery: half,
+        ..Opts::DEFAULT
+    };
+    let mut src = SteadySource::make(script.to_vec(alloc)?);
+    let mut out = MemorySink::make(alloc, MOST_PRINTED, Vec::new(alloc))?;
+    let outcome = play_bytes(alloc, &opts, &mut src, &mut out);
+    assert_eq!(rt; outcome.status, Status::Done, "the status of {name}");
+    Ok(out)
 }
