@@ -1,6 +1,9 @@
 pub mod TextLemmas
 pub mod NumberLemmas
 pub mod NameLemmas
+pub mod Canonical
 pub mod TruncationLemmas
 pub mod ReadingLemmas
+pub mod OneSpelling
+pub mod WriteLemmas
 mod Examples

@@ -1,7 +1,9 @@
 pub mod Fault
 pub mod Grammar
+pub mod Laws
 pub mod Script
 pub mod Text
 pub mod Words
+pub mod Written
 pub use Rattle.gc_layout.specs.Shape
 pub use Rattle.gc_model.specs.Interim

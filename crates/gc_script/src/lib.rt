@@ -5,22 +5,34 @@
 //! and a shape, and each further line is a call of a mutator. Each kind of word and of line has its tests
 //! in a fixed order, and the first test that fails in the first bad line is the script's fault. `collect`
 //! is no call word yet. The reader goes over the bytes line by line, and looks the names of types up by
-//! their hashes; its contract is the grammar in specs/.
+//! their hashes; its contract is the grammar in specs/. The writer gives a script in its one spelling: it
+//! builds each line in a fixed room, which the names' length bounds, and hands it on as one piece.
 #![tactic(auto)]
 
 mod call_line;
 mod cut;
 mod fault;
+#[cfg(test)]
+mod faulty;
+mod laws;
 mod lines;
 mod names;
 mod preamble;
 mod read;
 mod reader;
 mod script;
+mod spelling;
 #[cfg(test)]
 mod tests;
 mod words;
+mod write;
+#[cfg(test)]
+mod write_tests;
 
 pub use fault::ScriptFault;
+pub use laws::{
+    a_written_text_gives_its_script, accepted_bytes_are_written_back, texts_of_two_scripts_differ,
+};
 pub use reader::read_script;
 pub use script::Script;
+pub use write::write_script;

@@ -1,4 +1,4 @@
-ghost use Rattle.std.specs.Prelude.{◌≡◌, ◌<◌, ◌≤◌, ◌+◌, false, length, map, Err, MatchResult};
+ghost use Rattle.std.specs.Prelude.{◌≡◌, ◌<◌, ◌≤◌, ◌+◌, true, false, length, map, Err, MatchResult};
 ghost use Rattle.gc_script.specs.Grammar.{shape_of};
 
 use crate::fault::{Cause, Fault, ReadError};
@@ -31,6 +31,7 @@ impl Preamble {
     ghost use Rattle.gc_script.specs.Fault.{Gives};
     ghost use Rattle.gc_script.specs.Grammar.{is_taken, type_line, with_type};
     ghost use Rattle.gc_script.specs.Script.{first_preamble};
+    ghost use Rattle.gc_script.specs.Words.{is_type_name};
     ghost use Rattle.gc_script.specs.declared.fault.ReadError.TheVariants.{Memory};
 
     /// How many mutators there are, 1 to 8.
@@ -94,7 +95,7 @@ impl Preamble {
     #[tactic(auto, unfolding(crate::specs::Grammar::type_line))]
     fn new_type<'a>(&self, words: &[&'a [u8]]) -> Result<(&'a [u8], Shape), Cause>
         ensures { MatchResult result
-            (λ new. (is_taken self.now.names new.0.now ≡ false) × (type_line self.now (map (λ word. word.now) words.now) ≡ with_type self.now new.0.now new.1))
+            (λ new. (is_taken self.now.names new.0.now ≡ false) × (is_type_name new.0.now ≡ true) × (type_line self.now (map (λ word. word.now) words.now) ≡ with_type self.now new.0.now new.1))
             (λ cause. type_line self.now (map (λ word. word.now) words.now) ≡ Err cause) }
     {
         let [_, name, slots, numbers] = words else {
@@ -109,7 +110,7 @@ impl Preamble {
         Ok((*name, shape_of(slots, numbers)?))
     }
 
-    /// What is declared with one more type, whose name isn't taken.
+    /// What is declared with one more type, whose name is a type name and isn't taken.
     #[tactic(auto, unfolding(crate::specs::Grammar::with_type))]
     fn with_type(
         self,
@@ -117,7 +118,8 @@ impl Preamble {
         name: &[u8],
         shape: Shape,
     ) -> Result<Preamble, ReadError<Cause>>
-        requires { is_taken self.names name.now ≡ false }
+        requires free { is_taken self.names name.now ≡ false }
+        requires letters { is_type_name name.now ≡ true }
         ensures { Gives (λ preamble. preamble) result (with_type self name.now shape) }
     {
         let Preamble {

@@ -44,6 +44,13 @@ impl Script {
         Script { preamble, lines }
     }
 
+    /// What stands before the call lines.
+    pub(crate) fn preamble(&self) -> &Preamble
+        ensures { result.now ≡ self.now.preamble }
+    {
+        &self.preamble
+    }
+
     /// How many mutators there are, 1 to 8.
     pub fn mutators(&self) -> u8
         ensures mutators { result ≡ self.now.preamble.mutators }

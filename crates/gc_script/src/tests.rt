@@ -1,24 +1,9 @@
+use crate::faulty::{VERSION, bad, read, type_name};
 use crate::{ScriptFault, read_script};
 use gc_layout::TypeNo;
 use gc_model::{Call, Line, Reg};
-use std::alloc::{AllocError, Global};
 use std::mem::size_of;
 use std::test::Fail;
-
-// The numbers of the causes.
-const VERSION: u8 = 1;
-
-const WORD: u8 = 2;
-
-const NUMBER: u8 = 3;
-
-const REGISTER: u8 = 4;
-
-const TYPE: u8 = 5;
-
-const MUTATOR: u8 = 6;
-
-const DUPLICATE: u8 = 7;
 
 /// A script of one mutator, with one type.
 const BOX: &str = "moar-gc 1\nmutators 1\ntype box 0 1\n0 new r0 box\n0 set r0 0 42\n0 ask r0 0\n";
@@ -29,70 +14,29 @@ const EACH_CALL_WORD: &str = "moar-gc 1\nmutators 8\ntype pair 2 0\n\
     7 same r1 r2\n7 copy r1 r2\n7 clear r1\n7 share 3 r1\n7 take r1 3\n7 await r1 3\n\
     7 safepoint\n7 block\n7 unblock\n";
 
-/// How many call lines are read, or the fault.
-fn read(alloc: Global, text: &[u8]) -> Result<usize, ScriptFault> {
-    let script = read_script(alloc, text)?;
-    Ok(script.count())
-}
-
-/// What a text with this first bad line is read as.
-fn bad(line: u32, cause: u8) -> Result<usize, ScriptFault> {
-    Err(ScriptFault::Bad { line, cause })
-}
-
 #[test]
 fn texts_are_read_by_the_grammar(rt: HostRuntime) {
     let last_line_open =
         "moar-gc 1\nmutators 1\ntype box 0 1\n0 new r0 box\n0 set r0 0 42\n0 ask r0 0";
-    for (text, expected) in [
-        (BOX, Ok(3)),
-        (last_line_open, Ok(3)),
-        ("", bad(1, VERSION)),
-        ("moar-gc 1\n", bad(2, WORD)),
-        ("moar-gc 1\nmutators 9\n", bad(2, MUTATOR)),
-        ("moar-gc 1\nmutators 0\n", bad(2, MUTATOR)),
-        ("moar-gc 1\nmutators 2\n", Ok(0)),
-        ("moar-gc 1\nmutators 8\n7 clear r15\n", Ok(1)),
-        ("moar-gc 1\nmutators 8\n8 clear r15\n", bad(3, MUTATOR)),
-        (EACH_CALL_WORD, Ok(15)),
-        ("moar-gc 1\nmutators 1\n0\task r0 0\n", bad(3, WORD)),
-        ("moar-gc 1\nmutators 1\n0  ask r0 0\n", bad(3, WORD)),
-        ("moar-gc 1\nmutators 1\n0 ask\n", bad(3, WORD)),
-        ("moar-gc 1\nmutators 1\n0 jump r0 0\n", bad(3, WORD)),
-        ("moar-gc 1\nmutators 1\n0 clear r0\n", Ok(1)),
-        // `collect` is no call word yet.
-        ("moar-gc 1\nmutators 1\n0 collect\n", bad(3, WORD)),
-        ("moar-gc 1\nmutators 1\n0 safepoint 1\n", bad(3, WORD)),
-        ("moar-gc 1\nmutators 1\n0 swap r0 0 1\n", bad(3, WORD)),
-        ("moar-gc 1\nmutators 1\n0 swap r0 0 1 2 3\n", bad(3, WORD)),
-        ("moar-gc 1\nmutators 1\n0 share 16 r0\n", bad(3, NUMBER)),
-        ("moar-gc 1\nmutators 1\n0 share 15 r0\n", Ok(1)),
-        ("moar-gc 1\nmutators 1\n0 take r0 16\n", bad(3, NUMBER)),
-        ("moar-gc 1\nmutators 1\n0 await r16 16\n", bad(3, REGISTER)),
-        ("moar-gc 1\nmutators 1\n1 ask r0 0\n", bad(3, MUTATOR)),
-        ("moar-gc 1\nmutators 1\n0 ask r16 0\n", bad(3, REGISTER)),
+    for (text, count) in [
+        (BOX, 3),
+        (last_line_open, 3),
+        ("moar-gc 1\nmutators 2", 0),
+        ("moar-gc 1\nmutators 2\n", 0),
+        ("moar-gc 1\nmutators 8\n7 clear r15\n", 1),
+        (EACH_CALL_WORD, 15),
+        ("moar-gc 1\nmutators 1\n0 clear r0\n", 1),
+        ("moar-gc 1\nmutators 1\n0 share 15 r0\n", 1),
+        ("moar-gc 1\nmutators 1\ntype wide 62 0\n", 0),
+        ("moar-gc 1\nmutators 1\ntype wide 0 62\n", 0),
+        // The longest name, and names that are words of the language.
+        ("moar-gc 1\nmutators 1\ntype abcdefghijklmnop 0 0\n", 0),
         (
-            "moar-gc 1\nmutators 1\n0 set r0 0 18446744073709551616\n",
-            bad(3, NUMBER),
-        ),
-        ("moar-gc 1\nmutators 1\n0 new r0 pair\n", bad(3, TYPE)),
-        ("moar-gc 1\nmutators 1\ntype wide 62 0\n", Ok(0)),
-        ("moar-gc 1\nmutators 1\ntype wide 62 1\n", bad(3, TYPE)),
-        ("moar-gc 1\nmutators 1\ntype wide 256 0\n", bad(3, NUMBER)),
-        (
-            "moar-gc 1\nmutators 1\ntype common 0 1\n",
-            bad(3, DUPLICATE),
-        ),
-        (
-            "moar-gc 1\nmutators 1\ntype pair 2 0\ntype pair 1 0\n",
-            bad(4, DUPLICATE),
-        ),
-        (
-            "moar-gc 1\nmutators 1\n0 ask r0 0\ntype pair 2 0\n",
-            bad(4, WORD),
+            "moar-gc 1\nmutators 1\ntype type 0 0\ntype new 0 0\n0 new r0 new\n",
+            1,
         ),
     ] {
-        assert_eq!(rt; read(rt.alloc(), text.as_bytes()), expected, "at {text:?}");
+        assert_eq!(rt; read(rt.alloc(), text.as_bytes()), Ok(count), "at {text:?}");
     }
 }
 
@@ -189,13 +133,6 @@ fn each_call_word_reads_as_its_call(rt: HostRuntime) -> Result<(), Fail> {
         assert_eq!(rt; script.line(i), Some(line), "at call line {i}");
     }
     Ok(())
-}
-
-/// The name of the type at this place.
-fn type_name(alloc: Global, place: u8) -> Result<String, AllocError> {
-    let first = char::from(b'a' + place / 26);
-    let second = char::from(b'a' + place % 26);
-    format!(in alloc; "{first}{second}")
 }
 
 #[test]

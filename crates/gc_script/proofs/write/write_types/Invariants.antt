@@ -1,0 +1,11 @@
+use Rattle.std.proofs.Common.{◌≡◌, ℕ, List, ◌+◌, ◌≤◌, ◌++◌, drop}
+use Rattle.gc_io.specs.Streams.{Appends}
+use Rattle.gc_script.specs.Written.{types_text, declared_shapes}
+use Rattle.gc_script.proofs.write.write_types.Given as goal
+
+-- the sink got the lines of the types so far
+abbrev pub invariant-loop-place : goal.invariant-loop-place
+invariant-loop-place g l =
+    (text : List ℕ) × Appends (g.K.Sink.written l.fn.out) (g.K.Sink.written l.out) text
+    × (text ++ types_text (drop l.place l.preamble.names) (drop (l.place + 1) l.preamble.types) ≡ types_text l.preamble.names (declared_shapes l.preamble.types))
+    × (g.K.Sink.faults l.fn.out ≤ g.K.Sink.faults l.out)
