@@ -7,4 +7,3 @@ pub mod HeapShows
 pub mod HeapStores
 pub mod HeapWords
 pub mod PlayLemmas
-pub mod StreamLemmas

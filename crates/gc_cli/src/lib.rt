@@ -2,9 +2,10 @@
 //!
 //! `moar_gc` is the top call. It reads the words, reads the source to its end, reads the script, plays its
 //! lines on the heap and writes each reply. Its contract says what was played and printed where the status
-//! is Done, and for every other status its cause. The heap of this stage is private: words in a row, one
-//! place to allocate at, and nothing is collected. How its words show a world of the graph is a definition
-//! in specs/, and every call is proved to give the graph's reply and to show the graph's world afterwards.
+//! is Done, and for every other status its cause. The heap of this stage is private: each mutator has its own
+//! half, in which a new object stands behind the others, and nothing is collected. How its words show a world
+//! of the graph is a definition in specs/, and every call is proved to give the graph's reply and to show the
+//! graph's world afterwards.
 #![tactic(auto)]
 
 mod command;

@@ -1,10 +1,11 @@
-ghost use Rattle.std.specs.Prelude.{◌≡◌, ◌≢◌, ◌≤◌, ◌↔◌, ℕ, List, None, map, string_bytes, IfOk, IfErr};
+ghost use Rattle.std.specs.Prelude.{◌≡◌, ◌≢◌, ◌<◌, ◌≤◌, ◌↔◌, ℕ, List, length, None, Some, map, string_bytes, IfOk, IfErr};
 ghost use Rattle.gc_io.specs.Faults.{HasRisen};
 ghost use Rattle.gc_io.specs.Streams.{Appends, AppendsPrefix};
 ghost use Rattle.gc_model.specs.History.{History};
-ghost use Rattle.gc_script.specs.Grammar.{IsScript};
+ghost use Rattle.gc_script.specs.Grammar.{IsScript, IsFirstFault};
+ghost use Rattle.gc_script.specs.Text.{most_bytes};
 ghost use Rattle.gc_script.specs.Script.{Script as Text};
-ghost use Rattle.gc_cli.specs.Causes.{HasNoScript};
+ghost use Rattle.gc_cli.specs.Causes.{HasNoScript, Tells, IsOrNoMemory};
 ghost use Rattle.gc_cli.specs.Command.{request_of, status_line};
 ghost use Rattle.gc_cli.specs.Played.{IsRead, IsTooLong, IsNoScript, Plays, PlaysInPart, IsWithinLimits, default_opts};
 
@@ -66,6 +67,16 @@ pub fn play_bytes<S: Source, K: Sink>(
         → ((bytes : List ℕ) × (script : Text) × (history : History) × PlaysInPart opts.now (S.rest src.old) (S.rest src.new)
         (K.written out.old) (K.written out.new) bytes script history) }
 
+    // What else was given is told: a text that is too long, the first fault of one that is no script; and a
+    // script is played, where the sink counts no fault. Want of memory may stand in place of each.
+    ensures long_is_told { (bytes : List ℕ) → Tells (S.rest src.old) (S.faults src.old) (S.faults src.new) bytes
+        → most_bytes < length bytes → IsOrNoMemory Status.Long result.status }
+    ensures bad_is_told { (bytes : List ℕ) (line cause : ℕ) → Tells (S.rest src.old) (S.faults src.old) (S.faults src.new) bytes
+        → length bytes ≤ most_bytes → IsFirstFault bytes line cause → IsOrNoMemory (Status.Bad line cause) result.status }
+    ensures complete { (bytes : List ℕ) (script : Text) → Tells (S.rest src.old) (S.faults src.old) (S.faults src.new) bytes
+        → length bytes ≤ most_bytes → IsScript bytes script → ¬ HasRisen (K.faults out.old) (K.faults out.new)
+        → IsOrNoMemory Status.Done result.status }
+
     // Unless something was played and written, the sink is as before.
     ensures untouched { result.status ≢ Status.Done → result.status ≢ Status.WriteFault → out.new ≡ out.old }
     ensures left { result.left ≡ Left.Nothing }
@@ -115,6 +126,19 @@ pub fn moar_gc<R, S: Source, K: Sink, E: Sink, G: Gate + Sync>(
     ensures write_part { result.status ≡ Status.WriteFault
         → ((bytes : List ℕ) × (script : Text) × (history : History) × PlaysInPart default_opts (S.rest src.old) (S.rest src.new)
         (K.written out.old) (K.written out.new) bytes script history) }
+
+    // What else was given is told: a text that is too long, the first fault of one that is no script; and a
+    // script is played, where the sink counts no fault. Want of memory may stand in place of each.
+    ensures long_is_told { (bytes : List ℕ) → request_of (map string_bytes args.now) ≡ Some Request.Play
+        → Tells (S.rest src.old) (S.faults src.old) (S.faults src.new) bytes
+        → most_bytes < length bytes → IsOrNoMemory Status.Long result.status }
+    ensures bad_is_told { (bytes : List ℕ) (line cause : ℕ) → request_of (map string_bytes args.now) ≡ Some Request.Play
+        → Tells (S.rest src.old) (S.faults src.old) (S.faults src.new) bytes
+        → length bytes ≤ most_bytes → IsFirstFault bytes line cause → IsOrNoMemory (Status.Bad line cause) result.status }
+    ensures complete { (bytes : List ℕ) (script : Text) → request_of (map string_bytes args.now) ≡ Some Request.Play
+        → Tells (S.rest src.old) (S.faults src.old) (S.faults src.new) bytes
+        → length bytes ≤ most_bytes → IsScript bytes script → ¬ HasRisen (K.faults out.old) (K.faults out.new)
+        → IsOrNoMemory Status.Done result.status }
 
     // Unless something was played and written, the sink is as before.
     ensures untouched { result.status ≢ Status.Done → result.status ≢ Status.WriteFault → out.new ≡ out.old }

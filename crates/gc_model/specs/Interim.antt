@@ -1,5 +1,5 @@
 -- What a heap that never collects has room for, and what it answers to the lines of a script.
-use Rattle.std.specs.Prelude.{ℕ, ◌+◌, List, [], ◌∷◌, Bool, true, nat_le}
+use Rattle.std.specs.Prelude.{ℕ, ◌+◌, List, [], ◌∷◌, Bool, true, nat_le, fold}
 use Rattle.gc_layout.specs.declared.shape.Shape.{Shape}
 use Rattle.gc_layout.specs.Shape.{size_of}
 use Rattle.gc_model.specs.declared.call.Call.{Call}
@@ -26,6 +26,10 @@ abbrev pub replies_of : List Shape → ℕ → World → List Line → List Repl
 replies_of types nursery world [] = []
 replies_of types nursery world (line ∷ lines) =
     (answer_to types nursery world line).reply ∷ replies_of types nursery (answer_to types nursery world line).world lines
+
+-- the world after the lines of a script
+abbrev pub world_after_lines : List Shape → ℕ → World → List Line → World
+world_after_lines types nursery world lines = fold (λ before line. (answer_to types nursery before line).world) world lines
 
 -- the history of the lines of a script, in their order
 abbrev pub history_of : List Shape → ℕ → World → List Line → History

@@ -1,6 +1,6 @@
 use Rattle.std.proofs.Common.{arith, append_assoc}
-use Rattle.gc_cli.proofs.PlayLemmas.{slice_get-below, lines_text-next, AppendsPrefix-behind}
-use Rattle.gc_cli.proofs.StreamLemmas.{Appends-append}
+use Rattle.gc_io.proofs.StreamLemmas.{Appends-append, AppendsPrefix-behind}
+use Rattle.gc_cli.proofs.PlayLemmas.{slice_get-below, lines_text-next}
 use Rattle.gc_cli.proofs.output.write_replies.Goals as goal
 
 pub returns-in-Failed-clause-part : goal.returns-in-Failed-clause-part

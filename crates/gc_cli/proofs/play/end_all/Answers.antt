@@ -1,9 +1,9 @@
-use Rattle.std.proofs.Common.{◌≡◌, ℕ, ◌∙◌, ap, subst, fold, arith}
+use Rattle.std.proofs.Common.{◌≡◌, ℕ, ◌∙◌, ap, subst, arith}
 use Rattle.gc_layout.specs.Places.{Layout}
 use Rattle.gc_model.specs.declared.call.Call.TheVariants.{End}
 use Rattle.gc_model.specs.declared.call.Line.{Line}
 use Rattle.gc_model.specs.History.{ends_of}
-use Rattle.gc_model.specs.Interim.{answer_to}
+use Rattle.gc_model.specs.Interim.{world_after_lines}
 use Rattle.gc_cli.specs.Heap.{ShowsWorld}
 use Rattle.gc_cli.proofs.PlayLemmas.{ends-next, gives-same}
 use Rattle.gc_cli.proofs.play.end_all.Goals as goal
@@ -21,7 +21,7 @@ loop-mutator-preserved c =
       ended = λ world shown.
           let before = kept.ended world shown in
           let half = ap (λ (layout : Layout). layout.nursery) kept.stays.places in
-          let so_far = fold (λ before line. (answer_to types nursery before line).world) world (ends_of c.loop-mutator.mutator) in
+          let so_far = world_after_lines types nursery world (ends_of c.loop-mutator.mutator) in
           let line : Line = record { mutator = c.loop-mutator.mutator; call = End } in
           let after = gives-same c.call.new.self c.call.result c.loop-mutator.heap.types.now types c.loop-mutator.heap.places.nursery nursery so_far line kept.stays.types half (c.call.ensures.answered so_far before) in
           rw (ends-next types nursery world c.loop-mutator.mutator) after.shown;
@@ -32,4 +32,4 @@ returns-clause-ended c world shown =
     let e : c.loop-mutator.mutator ≡ c.args.mutators = omega (arith, c.loop-mutator-test.false, c.loop-mutator.auto.mutator-end) in
     let types = c.args.heap.now.types.now in
     let nursery = c.args.heap.now.places.nursery in
-    subst (λ (n : ℕ). ShowsWorld c.loop-mutator.heap (fold (λ before line. (answer_to types nursery before line).world) world (ends_of n))) e (c.loop-mutator.invariant.ended world shown)
+    subst (λ (n : ℕ). ShowsWorld c.loop-mutator.heap (world_after_lines types nursery world (ends_of n))) e (c.loop-mutator.invariant.ended world shown)

@@ -1,0 +1,10 @@
+use Rattle.gc_cli.proofs.top.moar_gc.Goals as goal
+use Rattle.gc_cli.proofs.top.moar_gc.Goals.{in-Some-Play, in-None}
+
+-- the fault that playing tells is the fault that the top call tells
+pub returns-clause-bad_is_told : goal.returns-clause-bad_is_told
+returns-clause-bad_is_told g c bytes line cause asked tells few fault =
+    elim c.match-request_of.branch [
+      | in-Some-Play w ↦ rw w.outcome-is (w.play_bytes-outcome.ensures.bad_is_told bytes line cause (rw w.src-is at tells) few fault)
+      | in-None w ↦ absurd (let e : ⊥ = cc in e)
+    ]
