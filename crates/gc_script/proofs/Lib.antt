@@ -5,5 +5,6 @@ pub mod Canonical
 pub mod TruncationLemmas
 pub mod ReadingLemmas
 pub mod OneSpelling
+pub mod WordLemmas
 pub mod WriteLemmas
 mod Examples

@@ -1,8 +1,9 @@
 -- Where the first line and the first word end.
-use Rattle.std.proofs.Common.{◌≡◌, ℕ, suc, ◌+◌, ◌<◌, ◌≤◌, List, [], ◌∷◌, length, take, drop, Bool, true, false, cond, eqb, refl, ap, sym, subst, ◌-◌, ◌++◌, map, append_assoc, arith}
-use Rattle.std.proofs.lemmas.List.{take_rest, map-append}
+use Rattle.std.proofs.Common.{◌≡◌, ℕ, suc, ◌+◌, ◌<◌, ◌≤◌, List, [], ◌∷◌, length, take, drop, Bool, true, false, cond, eqb, refl, ap, sym, subst, ◌-◌, inl, inr, arith}
+use Rattle.std.proofs.lemmas.Bool.{cases_lt}
+use Rattle.std.proofs.lemmas.List.{take_rest, take_all, drop_all}
 use Rattle.std.proofs.Math.Numerals.{add-one}
-use Rattle.gc_script.specs.Text.{with_first, lines_of, words_of, bytes_before}
+use Rattle.gc_script.specs.Text.{with_first, lines_of, bytes_before, first_line, after_line}
 
 -- the first line ends before the first newline
 pub lines_of-cut : (bytes : List ℕ) → bytes_before 10 bytes < length bytes → lines_of bytes ≡ take (bytes_before 10 bytes) bytes ∷ lines_of (drop (suc (bytes_before 10 bytes)) bytes)
@@ -23,22 +24,6 @@ lines_of-last byte (next ∷ bytes) h = go (eqb byte 10) h (lines_of-last next b
   go true h rest = absurd (omega arith)
   go false h rest = ap (with_first byte) (rest (omega arith))
 
--- the first word ends before the first space
-pub words_of-cut : (bytes : List ℕ) → bytes_before 32 bytes < length bytes → words_of bytes ≡ take (bytes_before 32 bytes) bytes ∷ words_of (drop (suc (bytes_before 32 bytes)) bytes)
-words_of-cut [] h = absurd (omega arith)
-words_of-cut (byte ∷ bytes) h = go (eqb byte 32) h (words_of-cut bytes) where
-  go : (b : Bool) → cond b 0 (suc (bytes_before 32 bytes)) < length (byte ∷ bytes) → (bytes_before 32 bytes < length bytes → words_of bytes ≡ take (bytes_before 32 bytes) bytes ∷ words_of (drop (suc (bytes_before 32 bytes)) bytes)) → cond b ([] ∷ words_of bytes) (with_first byte (words_of bytes)) ≡ take (cond b 0 (suc (bytes_before 32 bytes))) (byte ∷ bytes) ∷ words_of (drop (suc (cond b 0 (suc (bytes_before 32 bytes)))) (byte ∷ bytes))
-  go true h rest = refl
-  go false h rest = ap (with_first byte) (rest (omega arith))
-
--- where there is no space, all that stands there is the last word
-pub words_of-last : (bytes : List ℕ) → length bytes ≤ bytes_before 32 bytes → words_of bytes ≡ bytes ∷ []
-words_of-last [] h = refl
-words_of-last (byte ∷ bytes) h = go (eqb byte 32) h (words_of-last bytes) where
-  go : (b : Bool) → length (byte ∷ bytes) ≤ cond b 0 (suc (bytes_before 32 bytes)) → (length bytes ≤ bytes_before 32 bytes → words_of bytes ≡ bytes ∷ []) → cond b ([] ∷ words_of bytes) (with_first byte (words_of bytes)) ≡ (byte ∷ bytes) ∷ []
-  go true h rest = absurd (omega arith)
-  go false h rest = ap (with_first byte) (rest (omega arith))
-
 -- the first line and what is behind it, as the slices of the text
 pub lines_of-at : (bytes : List ℕ) (end : ℕ) → end ≡ bytes_before 10 bytes → end < length bytes → lines_of bytes ≡ take end bytes ∷ lines_of (take (length bytes - (end + 1)) (drop (end + 1) bytes))
 lines_of-at bytes end is within =
@@ -49,13 +34,11 @@ pub lines_of-only : (bytes : List ℕ) → 0 < length bytes → length bytes ≤
 lines_of-only [] some h = absurd (omega arith)
 lines_of-only (byte ∷ bytes) some h = lines_of-last byte bytes h
 
--- the first word and what is behind it, as the slices of the line
-pub words_of-at : (bytes : List ℕ) (end : ℕ) → end ≡ bytes_before 32 bytes → end < length bytes → words_of bytes ≡ take end bytes ∷ words_of (take (length bytes - (end + 1)) (drop (end + 1) bytes))
-words_of-at bytes end is within =
-    rw (take_rest bytes (end + 1), add-one) (let P : ℕ → Type 0 = λ n. words_of bytes ≡ take n bytes ∷ words_of (drop (suc n) bytes) in subst P (sym is) (words_of-cut bytes (omega (arith, is))))
-
--- one more of the first seven
-pub first_seven-more : {X Y : Type 0} (f : X → Y) (front : List X) (x : X) (behind whole : List Y) (n : ℕ) → n < 7 → map f front ++ take (7 - n) (f x ∷ behind) ≡ whole → map f (front ++ x ∷ []) ++ take (7 - (n + 1)) behind ≡ whole
-first_seven-more f front x behind whole n below h =
-    let e : 7 - n ≡ suc (7 - (n + 1)) = omega arith in
-    rw (map-append f front (x ∷ []), append_assoc) (rw e at h)
+-- the first line of a text that isn't empty, and the lines behind it
+pub lines_of-first : (bytes : List ℕ) → 0 < length bytes → lines_of bytes ≡ first_line bytes ∷ lines_of (after_line bytes)
+unfolding first_line after_line
+lines_of-first bytes some =
+    elim (cases_lt (bytes_before 10 bytes) (length bytes)) [
+      | inl within ↦ lines_of-cut bytes within
+      | inr past ↦ rw (take_all (bytes_before 10 bytes) bytes past, drop_all (suc (bytes_before 10 bytes)) bytes (omega arith)) (lines_of-only bytes some past)
+    ]

@@ -1,5 +1,5 @@
 -- Cutting a text into lines, and a line into words.
-use Rattle.std.specs.Prelude.{ℕ, suc, List, [], ◌∷◌, Option, None, Some, ◌==◌, if◌then◌else◌}
+use Rattle.std.specs.Prelude.{ℕ, suc, List, [], ◌∷◌, take, drop, Bool, ◌||◌, ◌==◌, if◌then◌else◌}
 
 -- the most bytes of a script
 abbrev pub most_bytes : ℕ
@@ -25,7 +25,23 @@ abbrev pub bytes_before : ℕ → List ℕ → ℕ
 bytes_before end [] = 0
 bytes_before end (byte ∷ bytes) = if byte == end then 0 else suc (bytes_before end bytes)
 
--- the words behind a space, if there is one
-abbrev pub words_behind : Option (List ℕ) → List (List ℕ)
-words_behind None = []
-words_behind (Some rest) = words_of rest
+-- the first line of a text that isn't empty
+unfoldable pub first_line : List ℕ → List ℕ
+first_line bytes = take (bytes_before 10 bytes) bytes
+
+-- what stands behind its newline
+unfoldable pub after_line : List ℕ → List ℕ
+after_line bytes = drop (suc (bytes_before 10 bytes)) bytes
+
+-- how many bytes stand before the first newline or space, or all of them
+abbrev pub word_end : List ℕ → ℕ
+word_end [] = 0
+word_end (byte ∷ bytes) = if byte == 10 || byte == 32 then 0 else suc (word_end bytes)
+
+-- the words from a word on, by the text behind what ends it: where that is a space, the line goes on
+abbrev pub words_from : List ℕ → Bool → List ℕ → List (List ℕ)
+words_from word goes_on behind = if goes_on then word ∷ words_of (first_line behind) else word ∷ []
+
+-- what stands behind that line
+abbrev pub after_from : Bool → List ℕ → List ℕ
+after_from goes_on behind = if goes_on then after_line behind else behind

@@ -1,7 +1,8 @@
 //! Faulty scripts. The line and the cause of each are worked out by hand from the rules of the language.
 
 use crate::{ScriptFault, read_script};
-use std::alloc::{AllocError, Global};
+use std::alloc::{AllocError, AllocGlobal, Global};
+use std::process::Abort;
 use std::test::Fail;
 
 // The numbers of the causes.
@@ -30,10 +31,22 @@ pub(crate) fn bad(line: u32, cause: u8) -> Result<usize, ScriptFault> {
     Err(ScriptFault::Bad { line, cause })
 }
 
-/// What is read where these lines stand behind three lines, with two mutators and the type `box`.
-fn read_behind(alloc: Global, lines: &str) -> Result<Result<usize, ScriptFault>, AllocError> {
-    let text = format!(in alloc; "moar-gc 1\nmutators 2\ntype box 0 1\n{lines}\n")?;
-    Ok(read(alloc, text.as_bytes()))
+/// Sees that this is the first bad line of the text, with this cause.
+fn see_fault<R: Abort + AllocGlobal>(rt: &R, text: &str, line: u32, cause: u8) {
+    let outcome = read(rt.alloc(), text.as_bytes());
+    assert_eq!(rt; outcome, bad(line, cause), "at {text:?}");
+}
+
+/// The same, where these lines stand behind three good ones, with two mutators and the type `box`.
+fn see_fault_behind<R: Abort + AllocGlobal>(
+    rt: &R,
+    lines: &str,
+    line: u32,
+    cause: u8,
+) -> Result<(), AllocError> {
+    let text = format!(in rt.alloc(); "moar-gc 1\nmutators 2\ntype box 0 1\n{lines}\n")?;
+    see_fault(rt, &text, line, cause);
+    Ok(())
 }
 
 /// The name of the type at this place.
@@ -66,11 +79,7 @@ fn the_version_line(rt: HostRuntime) {
         "\nmoar-gc 1\nmutators 1\n",
         "moar-gc 2\nmutators 9\n",
     ] {
-        assert_eq!(rt;
-            read(rt.alloc(), text.as_bytes()),
-            bad(1, VERSION),
-            "at {text:?}"
-        );
+        see_fault(&rt, text, 1, VERSION);
     }
 }
 
@@ -118,11 +127,7 @@ fn the_line_of_the_mutators(rt: HostRuntime) {
         ("moar-gc 1\nmutators 9\n0 jump\n", MUTATOR),
         ("moar-gc 1\nmutators x\ntype A 1\n", NUMBER),
     ] {
-        assert_eq!(rt;
-            read(rt.alloc(), text.as_bytes()),
-            bad(2, cause),
-            "at {text:?}"
-        );
+        see_fault(&rt, text, 2, cause);
     }
 }
 
@@ -173,11 +178,7 @@ fn type_lines(rt: HostRuntime) -> Result<(), Fail> {
         ("type a 255 0", TYPE),
         ("type a 255 255", TYPE),
     ] {
-        assert_eq!(rt;
-            read_behind(rt.alloc(), line)?,
-            bad(4, cause),
-            "at {line:?}"
-        );
+        see_fault_behind(&rt, line, 4, cause)?;
     }
     Ok(())
 }
@@ -209,11 +210,7 @@ fn the_earlier_test_of_a_type_line_is_told(rt: HostRuntime) -> Result<(), Fail> 
         ("type new r0 box", NUMBER),
         ("type 0 clear r0", TYPE),
     ] {
-        assert_eq!(rt;
-            read_behind(rt.alloc(), line)?,
-            bad(4, cause),
-            "at {line:?}"
-        );
+        see_fault_behind(&rt, line, 4, cause)?;
     }
     Ok(())
 }
@@ -237,11 +234,7 @@ fn the_256th_declared_type(rt: HostRuntime) -> Result<(), Fail> {
         ("type zz 0 256", NUMBER),
     ] {
         let text = format!(in rt.alloc(); "{full}{line}\n")?;
-        assert_eq!(rt;
-            read(rt.alloc(), text.as_bytes()),
-            bad(258, cause),
-            "at {line:?}"
-        );
+        see_fault(&rt, &text, 258, cause);
     }
     Ok(())
 }
@@ -309,7 +302,7 @@ fn the_words_of_a_call_line_are_counted(rt: HostRuntime) -> Result<(), Fail> {
         "0 share 16",
         "0 set r0 256",
     ] {
-        assert_eq!(rt; read_behind(rt.alloc(), line)?, bad(4, WORD), "at {line:?}");
+        see_fault_behind(&rt, line, 4, WORD)?;
     }
     Ok(())
 }
@@ -381,11 +374,7 @@ fn each_word_of_a_call_line_has_its_kind(rt: HostRuntime) -> Result<(), Fail> {
         ("0 await r16 0", REGISTER),
         ("0 await r0 16", NUMBER),
     ] {
-        assert_eq!(rt;
-            read_behind(rt.alloc(), line)?,
-            bad(4, cause),
-            "at {line:?}"
-        );
+        see_fault_behind(&rt, line, 4, cause)?;
     }
     Ok(())
 }
@@ -410,11 +399,7 @@ fn the_leftmost_bad_word_of_a_call_line_is_told(rt: HostRuntime) -> Result<(), F
         ("0 take r16 16", REGISTER),
         ("0 await r16 16", REGISTER),
     ] {
-        assert_eq!(rt;
-            read_behind(rt.alloc(), line)?,
-            bad(4, cause),
-            "at {line:?}"
-        );
+        see_fault_behind(&rt, line, 4, cause)?;
     }
     Ok(())
 }
@@ -443,14 +428,11 @@ fn the_first_bad_line_is_told(rt: HostRuntime) -> Result<(), Fail> {
         ("0 clear r0\ntype a 1 1", 5, WORD),
         ("0 clear r0\ntype", 5, WORD),
         ("0 clear r0\ntype new r0 box", 5, MUTATOR),
+        ("0 clear r0\ntype new r0 a", 5, MUTATOR),
         ("0 clear r0\ntype clear r16", 5, MUTATOR),
         ("0 new r0 a\ntype a 1 1", 4, TYPE),
     ] {
-        assert_eq!(rt;
-            read_behind(rt.alloc(), lines)?,
-            bad(line, cause),
-            "at {lines:?}"
-        );
+        see_fault_behind(&rt, lines, line, cause)?;
     }
     // A last line without its newline.
     for (text, line, cause) in [
@@ -462,11 +444,7 @@ fn the_first_bad_line_is_told(rt: HostRuntime) -> Result<(), Fail> {
             REGISTER,
         ),
     ] {
-        assert_eq!(rt;
-            read(rt.alloc(), text.as_bytes()),
-            bad(line, cause),
-            "at {text:?}"
-        );
+        see_fault(&rt, text, line, cause);
     }
     Ok(())
 }

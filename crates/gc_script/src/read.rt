@@ -6,10 +6,10 @@ ghost use Rattle.gc_script.specs.Fault.{Gives, Fails, at_line, located};
 ghost use Rattle.gc_script.specs.declared.fault.ReadError.TheVariants.{Refused};
 ghost use Rattle.gc_script.specs.Grammar.{mutators_line, is_type_line, type_line, call_line, call_lines, body, after_version, script_of, script_with_calls};
 ghost use Rattle.gc_script.specs.Script.{IsScriptLine};
-ghost use Rattle.gc_script.specs.Text.{most_bytes, lines_of, words_of};
+ghost use Rattle.gc_script.specs.Text.{most_bytes, lines_of};
 
 use crate::call_line::call_line;
-use crate::cut::{split_line, split_words};
+use crate::cut::{cut_line, split_line};
 use crate::fault::{Cause, Fault, ReadError, located};
 use crate::lines::Lines;
 use crate::preamble::Preamble;
@@ -49,39 +49,18 @@ fn is_type_line(words: &[&[u8]]) -> bool
     }
 }
 
-/// How many mutators line 2 declares.
-#[tactic(auto, using(crate::proofs::TruncationLemmas::truncated))]
-fn declared_mutators(line: &[u8]) -> Result<u8, Cause>
-    ensures value { result ≡ mutators_line (words_of line.now) }
-    ensures some { IfOk result (λ mutators. 1 ≤ mutators) }
-    ensures few { IfOk result (λ mutators. mutators ≤ 8) }
-{
-    let words = split_words(line);
-    mutators_line(words.as_slice())
-}
-
-/// A call line.
-#[tactic(auto, using(crate::proofs::TruncationLemmas::truncated))]
-fn read_call_line(preamble: &Preamble, line: &[u8]) -> Result<Line, Cause>
-    ensures line { result ≡ call_line preamble.now (words_of line.now) }
-    ensures fit { IfOk result (IsScriptLine preamble.now) }
-{
-    let words = split_words(line);
-    call_line(preamble, words.as_slice())
-}
-
 /// Reads a call line, which has this number, behind the lines so far.
 fn push_line(
     lines: &mut Lines,
     preamble: &Preamble,
     number: u32,
-    line: &[u8],
+    words: &[&[u8]],
 ) -> Result<(), ReadError<Fault>>
     ensures { MatchResult result
-        (λ _. (read : Line) × (call_line preamble.now (words_of line.now) ≡ Ok read) × IsScriptLine preamble.now read × (lines.new ≡ lines.old ++ read ∷ []))
-        (λ error. Fails error (at_line number (call_line preamble.now (words_of line.now)))) }
+        (λ _. (read : Line) × (call_line preamble.now (map (λ word. word.now) words.now) ≡ Ok read) × IsScriptLine preamble.now read × (lines.new ≡ lines.old ++ read ∷ []))
+        (λ error. Fails error (at_line number (call_line preamble.now (map (λ word. word.now) words.now)))) }
 {
-    match read_call_line(preamble, line) {
+    match call_line(preamble, words) {
         Ok(line) => {
             lines.push(line)?;
             Ok(())
@@ -94,7 +73,7 @@ fn push_line(
 }
 
 /// The call lines, of which the first has this number.
-#[tactic(auto, unfolding(crate::specs::Grammar::call_lines))]
+#[tactic(auto, unfolding(crate::specs::Grammar::call_lines), using(crate::proofs::TruncationLemmas::truncated))]
 fn call_lines(
     alloc: Global,
     preamble: &Preamble,
@@ -109,8 +88,8 @@ fn call_lines(
     let mut lines = Lines::new(alloc);
     let mut number = first;
     let mut rest = bytes;
-    while let Some((line, behind)) = split_line(rest) {
-        push_line(&mut lines, preamble, number, line)?;
+    while let Some((words, behind)) = cut_line(rest) {
+        push_line(&mut lines, preamble, number, words.as_slice())?;
         number += 1;
         rest = behind;
     }
@@ -158,8 +137,7 @@ fn type_lines(
     let mut preamble = declared;
     let mut number: u32 = 3;
     let mut rest = bytes;
-    while let Some((line, behind)) = split_line(rest) {
-        let words = split_words(line);
+    while let Some((words, behind)) = cut_line(rest) {
         if !is_type_line(words.as_slice()) {
             break;
         }
@@ -189,15 +167,15 @@ fn body(alloc: Global, declared: Preamble, bytes: &[u8]) -> Result<Script, ReadE
 }
 
 /// What stands behind the version line.
-#[tactic(auto, unfolding(crate::specs::Grammar::after_version))]
+#[tactic(auto, unfolding(crate::specs::Grammar::after_version), using(crate::proofs::TruncationLemmas::truncated))]
 fn after_version(alloc: Global, bytes: &[u8]) -> Result<Script, ReadError<Fault>>
     requires { length bytes.now ≤ most_bytes }
     ensures { Gives (λ script. script) result (after_version (lines_of bytes.now)) }
 {
-    let Some((line, rest)) = split_line(bytes) else {
+    let Some((words, rest)) = cut_line(bytes) else {
         return Err(refused(2, Cause::Word));
     };
-    match declared_mutators(line) {
+    match mutators_line(words.as_slice()) {
         Ok(mutators) => body(alloc, Preamble::make(alloc, mutators)?, rest),
         Err(cause) => Err(refused(2, cause)),
     }

@@ -1,7 +1,8 @@
 //! The reader that callers see: the limit on the length, and then the grammar.
 
-ghost use Rattle.std.specs.Prelude.{◌≡◌, ℕ, ◌<◌, ◌≤◌, ◌↔◌, length, Err, IfOk, IsErrOf};
+ghost use Rattle.std.specs.Prelude.{◌≡◌, ℕ, ◌<◌, ◌≤◌, ◌↔◌, ◌⊎◌, length, Err, IfOk, IsErrOf, MatchResult};
 ghost use Rattle.gc_script.specs.Grammar.{IsScript, IsFirstFault};
+ghost use Rattle.gc_script.specs.Script.{Script as Text};
 ghost use Rattle.gc_script.specs.Text.{most_bytes};
 
 use crate::fault::{ReadError, ScriptFault};
@@ -19,6 +20,11 @@ pub fn read_script(alloc: Global, bytes: &[u8]) -> Result<Script, ScriptFault>
     ensures long { IsErrOf result ScriptFault.Long ↔ (most_bytes < length bytes.now) }
     ensures bad { (line cause : ℕ) → result ≡ Err (ScriptFault.Bad line cause)
         → (length bytes.now ≤ most_bytes) × IsFirstFault bytes.now line cause }
+    // The first fault is told, where memory is found, and a text without one is read.
+    ensures bad_is_told { (line cause : ℕ) → length bytes.now ≤ most_bytes → IsFirstFault bytes.now line cause
+        → (result ≡ Err (ScriptFault.Bad line cause)) ⊎ (result ≡ Err ScriptFault.NoMemory) }
+    ensures complete { (script : Text) → length bytes.now ≤ most_bytes → IsScript bytes.now script
+        → MatchResult result (λ read. read ≡ script) (λ fault. fault ≡ ScriptFault.NoMemory) }
 {
     if bytes.len() > MOST_BYTES {
         return Err(ScriptFault::Long);

@@ -5,8 +5,8 @@ use Rattle.gc_script.proofs.cut.split_line.Goals as goal
 
 pub returns-then-end-bytes-clause-lines : goal.returns-then-end-bytes-clause-lines
 returns-then-end-bytes-clause-lines c =
-    lines_of-at _ _ c.bytes_before-end.ensures.before c.if-end-bytes.true
+    lines_of-at _ _ c.line_end-end.ensures.before c.if-end-bytes.true
 
 pub returns-else-end-bytes-clause-lines : goal.returns-else-end-bytes-clause-lines
 returns-else-end-bytes-clause-lines c =
-    lines_of-only _ (grind (arith, nat_tests)) (omega (arith, c.bytes_before-end.ensures.before))
+    lines_of-only _ (grind (arith, nat_tests)) (omega (arith, c.line_end-end.ensures.before))

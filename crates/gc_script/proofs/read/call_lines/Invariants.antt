@@ -6,13 +6,13 @@ use Rattle.gc_script.proofs.ReadingLemmas.{with_front}
 use Rattle.gc_script.proofs.read.call_lines.Given as goal
 
 -- the lines so far and those of the rest are all lines
-abbrev pub invariant-loop-line : goal.invariant-loop-line
-invariant-loop-line l = record {
+abbrev pub invariant-loop-words : goal.invariant-loop-words
+invariant-loop-words l = record {
   lines : with_front l.lines (call_lines l.preamble l.number (lines_of l.rest)) ≡ call_lines l.preamble l.first (lines_of l.bytes);
   fit : All (IsScriptLine l.preamble) l.lines;
   count : length l.lines + length l.rest ≤ length l.bytes;
   number : l.number + length l.rest ≤ l.first + length l.bytes;
 }
 
-abbrev pub decreases-loop-line : goal.decreases-loop-line
-decreases-loop-line l = length l.rest
+abbrev pub decreases-loop-words : goal.decreases-loop-words
+decreases-loop-words l = length l.rest
