@@ -221,9 +221,9 @@ const THREE: &str = "moar-gc 1\nmutators 3\ntype box 0 1\ntype pair 2 0\n\
     1 block\n0 put r1 0 r0\n1 put r1 0 r0\n2 get r4 r0 0\n2 ask r4 0\n1 unblock\n1 put r1 0 r1\n2 get r4 r0 0\n\
     2 ask r4 0\n2 same r4 r0\n";
 
-const EIGHT: &str = "moar-gc 1\nmutators 8\ntype box 0 1\ntype row 8 0\n\
+const EIGHT: &str = "moar-gc 1\nmutators 8\ntype box 0 1\ntype fan 8 0\n\
     0 new r0 box\n1 new r1 box\n2 new r2 box\n3 new r3 box\n4 new r4 box\n5 new r5 box\n6 new r6 box\n\
-    7 new r7 row\n7 share 7 r7\n0 take r15 7\n0 put r15 0 r0\n1 take r15 7\n1 put r15 1 r1\n2 take r15 7\n\
+    7 new r7 fan\n7 share 7 r7\n0 take r15 7\n0 put r15 0 r0\n1 take r15 7\n1 put r15 1 r1\n2 take r15 7\n\
     2 put r15 2 r2\n3 await r15 7\n3 put r15 3 r3\n4 await r15 7\n4 put r15 4 r4\n5 take r15 7\n5 put r15 5 r5\n\
     6 take r15 7\n6 put r15 6 r6\n6 set r6 0 66\n3 set r3 0 33\n7 get r0 r7 6\n7 ask r0 0\n7 get r0 r7 3\n\
     7 ask r0 0\n7 get r0 r7 7\n7 get r0 r7 8\n0 get r1 r15 6\n0 swap r1 0 66 1\n6 ask r6 0\n6 block\n6 ask r6 0\n\
