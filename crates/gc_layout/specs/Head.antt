@@ -1,6 +1,7 @@
 -- The header word.
-use Rattle.std.specs.Prelude.{ℕ, ◌+◌, Bool, if◌then◌else◌}
+use Rattle.std.specs.Prelude.{ℕ, ◌+◌, Bool, false, if◌then◌else◌}
 use Rattle.gc_layout.specs.declared.head.Head.{Head}
+use Rattle.gc_layout.specs.declared.shape.TypeNo.{TypeNo}
 
 -- what a flag adds to the word
 abbrev pub flag_value : Bool → ℕ → ℕ
@@ -11,3 +12,7 @@ abbrev pub head_word : Head → ℕ
 head_word head =
     head.ty.0 + flag_value head.old 256 + flag_value head.seen 512 + flag_value head.remembered 1024
     + flag_value head.marked 2048 + 4096
+
+-- the header of a new object, which is old where it lies in a page: no other flag is set
+abbrev pub fresh_head : TypeNo → Bool → Head
+fresh_head ty old = record { ty = ty; old = old; seen = false; remembered = false; marked = false }

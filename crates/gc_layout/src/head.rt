@@ -1,5 +1,7 @@
+//! The header word of an object: its type, and the collector's flags.
+
 ghost use Rattle.std.specs.Prelude.{◌≡◌, ◌<◌, ◌↔◌, ◌/◌, ◌%◌, ℕ, Some, IfSome, IsTrue};
-ghost use Rattle.gc_layout.specs.Head.{head_word, flag_value};
+ghost use Rattle.gc_layout.specs.Head.{head_word, flag_value, fresh_head};
 ghost use Rattle.gc_layout.specs.declared.head.Head.{Head};
 
 use crate::TypeNo;
@@ -33,6 +35,19 @@ pub struct Head {
 }
 
 impl Head {
+    /// The header of a new object: all flags are off, but for `old` where it lies in a page.
+    pub fn fresh(ty: TypeNo, old: bool) -> Head
+        ensures { result ≡ fresh_head ty old }
+    {
+        Head {
+            ty,
+            old,
+            seen: false,
+            remembered: false,
+            marked: false,
+        }
+    }
+
     /// The header word.
     pub fn word(self) -> u64
         ensures { result ≡ head_word self }

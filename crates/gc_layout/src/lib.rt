@@ -12,6 +12,7 @@
 mod head;
 mod places;
 mod shape;
+mod sizes;
 #[cfg(test)]
 mod tests;
 mod types;
@@ -19,6 +20,7 @@ mod types;
 pub use head::Head;
 pub use places::{Part, Places};
 pub use shape::{Shape, TypeNo};
+pub use sizes::{COMMON_SLOTS, FIRST_SLOT, FORWARDING_WORD, LARGEST_SIZE, PAGE_WORDS, REGISTERS};
 pub use types::{AddFault, Types};
 
 /// Want of memory.

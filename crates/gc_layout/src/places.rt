@@ -1,14 +1,24 @@
-ghost use Rattle.std.specs.Prelude.{◌≡◌, ℕ, ◌<◌, ◌≤◌, ◌↔◌, ◌⊎◌, Some, IfSome, IsNone};
-ghost use Rattle.gc_layout.specs.declared.places.Part.{Part};
-ghost use Rattle.gc_layout.specs.Places.{IsWithinLimits, region_words, word_count, region_start, words_before, address_of, IsInside, owner_of};
+//! Where everything in a heap lies: the regions, their parts, and the owner and the part of an address.
+//!
+//! The owner of an address is the number of whole regions before it. A collection asks for it at each word that
+//! it looks at, so no division is made there: `Places` keeps the reciprocal of a region's words, scaled by 2 to
+//! the 42 and rounded up, and the product of it and the words before an address, scaled back, is the quotient.
+//! That is exact, since the rounding adds less than one region's share for as many words as a heap can have.
+//! What an address is inside its region follows by comparing and subtracting, and by shifts for the pages.
 
+ghost use Rattle.std.specs.Prelude.{◌≡◌, ℕ, ◌+◌, ◌*◌, ◌-◌, ◌/◌, ◌%◌, ◌<◌, ◌≤◌, ◌↔◌, ◌⊎◌, Some, IfSome, IsNone, IsTrue};
+ghost use Rattle.gc_layout.specs.declared.places.Part.{Part};
+ghost use Rattle.gc_layout.specs.Places.{IsWithinLimits, region_words, word_count, region_start, words_before, address_of, IsInside, owner_of, IsInHalf, IsInPages, cell_address};
+ghost use Rattle.gc_layout.specs.Sizes.{page_words, register_count};
+
+use crate::{LARGEST_SIZE, PAGE_WORDS, REGISTERS};
 use std::marker::Model;
 
 /// The most mutators.
 const MOST_MUTATORS: u8 = 8;
 
 /// The fewest words of a half.
-const SMALLEST_NURSERY: u32 = 64;
+const SMALLEST_NURSERY: u32 = LARGEST_SIZE as u32;
 
 /// The most words of a half.
 const LARGEST_NURSERY: u32 = 65_536;
@@ -16,11 +26,11 @@ const LARGEST_NURSERY: u32 = 65_536;
 /// The most pages of a mutator.
 const MOST_PAGES: u16 = 128;
 
-/// The root words of a region, one for each register.
-const ROOTS: u64 = 16;
+/// The root words of a region.
+const ROOTS: u64 = REGISTERS as u64;
 
-/// The words of a page.
-const PAGE_WORDS: u64 = 1024;
+/// By how much the reciprocal of a region's words is scaled: 2 to the 42.
+const SCALE: u64 = 4_398_046_511_104;
 
 /// A word of a mutator's region.
 #[derive(Clone, Copy, Debug, PartialEq, Eq)]
@@ -40,18 +50,25 @@ pub struct Places {
     mutators: u8,
     nursery: u32,
     pages: u16,
+    reciprocal: u64,
 }
 
 impl Model for Places {
+    ghost use Rattle.std.specs.Prelude.{◌≡◌};
     ghost use Rattle.gc_layout.specs.Places.{Layout, IsWithinLimits};
+    ghost use Rattle.gc_layout.specs.Reciprocal.{reciprocal_of};
+    ghost use Rattle.std.proofs.Common.{ap, sym};
 
     ghost Value = { Layout };
 
     ghost view = { λ p. record { mutators = p.mutators; nursery = p.nursery; pages = p.pages } };
 
-    ghost invariant = { λ p. IsWithinLimits (record { mutators = p.mutators; nursery = p.nursery; pages = p.pages }) };
+    ghost invariant = { λ p. IsWithinLimits (record { mutators = p.mutators; nursery = p.nursery; pages = p.pages })
+        × (p.reciprocal ≡ reciprocal_of (record { mutators = p.mutators; nursery = p.nursery; pages = p.pages })) };
 
-    ghost inverse = { λ l. record { mutators = l.mutators; nursery = l.nursery; pages = l.pages } };
+    ghost inverse = { λ l. record { mutators = l.mutators; nursery = l.nursery; pages = l.pages; reciprocal = reciprocal_of l } };
+
+    ghost inverse_ok = { λ p h. ap (λ reciprocal. record { mutators = p.mutators; nursery = p.nursery; pages = p.pages; reciprocal = reciprocal }) (sym h.1) };
 }
 
 impl Places {
@@ -69,6 +86,7 @@ impl Places {
                 mutators,
                 nursery,
                 pages,
+                reciprocal: SCALE / region(nursery, pages) + 1,
             })
         } else {
             None
@@ -82,10 +100,11 @@ impl Places {
         ensures owner { IfSome result (λ m. (m ≡ owner_of self.now a) × (m < self.now.mutators)) }
         ensures exact { (m : ℕ) (part : Part) → m < self.now.mutators → IsInside self.now part → address_of self.now m part ≡ a → result ≡ Some m }
     {
-        if a == 0 || a > self.words() {
-            return None;
+        if self.is_address(a) {
+            Some(self.regions_before(a - 1))
+        } else {
+            None
         }
-        Some(((a - 1) / self.region()) as u8)
     }
 
     /// The part of its owner's region that an address is. None exactly where the address is 0 or above the
@@ -96,10 +115,32 @@ impl Places {
         ensures address { IfSome result (λ part. address_of self.now (owner_of self.now a) part ≡ a) }
         ensures exact { (m : ℕ) (part : Part) → m < self.now.mutators → IsInside self.now part → address_of self.now m part ≡ a → result ≡ Some part }
     {
-        if a == 0 || a > self.words() {
-            return None;
+        if self.is_address(a) {
+            let before = a - 1;
+            let owner = self.regions_before(before);
+            Some(self.part_after(before - u64::from(owner) * self.region()))
+        } else {
+            None
         }
-        Some(self.part_after((a - 1) % self.region()))
+    }
+
+    /// Whether an address is a word of this half, 0 or 1, of a mutator.
+    pub fn is_in_half(&self, m: u8, half: u8, a: u64) -> bool
+        requires mutator { m < self.now.mutators }
+        requires half { half < 2 }
+        ensures { IsTrue result ↔ IsInHalf self.now m half a }
+    {
+        let first = self.half_start(m, half);
+        (first..first + u64::from(self.nursery)).contains(&a)
+    }
+
+    /// Whether an address is a word of a page of a mutator.
+    pub fn is_in_pages(&self, m: u8, a: u64) -> bool
+        requires { m < self.now.mutators }
+        ensures { IsTrue result ↔ IsInPages self.now m a }
+    {
+        let first = self.pages_start(m);
+        (first..first + u64::from(self.pages) * PAGE_WORDS).contains(&a)
     }
 
     /// The address of the root word of register 0. The other registers' root words follow it.
@@ -114,7 +155,8 @@ impl Places {
     pub fn half_start(&self, m: u8, half: u8) -> u64
         requires mutator { m < self.now.mutators }
         requires half { half < 2 }
-        ensures { result ≡ address_of self.now m (Part.Half half 0) }
+        ensures start { result ≡ address_of self.now m (Part.Half half 0) }
+        ensures limits { IsWithinLimits self.now }
     {
         self.start(m) + ROOTS + u64::from(half) * u64::from(self.nursery)
     }
@@ -125,7 +167,27 @@ impl Places {
         requires page { page < self.now.pages }
         ensures { result ≡ address_of self.now m (Part.Page page 0) }
     {
-        self.start(m) + ROOTS + 2 * u64::from(self.nursery) + u64::from(page) * PAGE_WORDS
+        self.pages_start(m) + u64::from(page) * PAGE_WORDS
+    }
+
+    /// The address of a cell, by its offset: how many words of the mutator's pages stand before it.
+    pub fn cell_address(&self, m: u8, offset: u64) -> u64
+        requires mutator { m < self.now.mutators }
+        requires offset { offset < page_words * self.now.pages }
+        ensures address { result ≡ cell_address self.now m offset }
+        ensures inside { IsInPages self.now m result }
+    {
+        self.pages_start(m) + offset
+    }
+
+    /// The offset of the cell at an address of the mutator's pages: how many words of the pages stand before it.
+    pub fn cell_offset(&self, m: u8, a: u64) -> u64
+        requires mutator { m < self.now.mutators }
+        requires inside { IsInPages self.now m a }
+        ensures address { cell_address self.now m result ≡ a }
+        ensures offset { result < page_words * self.now.pages }
+    {
+        a - self.pages_start(m)
     }
 
     /// How many words the heap has. The addresses are 1 to this number.
@@ -160,22 +222,48 @@ impl Places {
         self.pages
     }
 
+    /// Whether this is an address of the heap.
+    fn is_address(&self, a: u64) -> bool
+        ensures { IsTrue result ↔ ((1 ≤ a) × (a ≤ word_count self.now)) }
+    {
+        (1..=self.words()).contains(&a)
+    }
+
+    /// How many whole regions so many words are.
+    fn regions_before(&self, before: u64) -> u8
+        requires { before < word_count self.now }
+        ensures regions { result ≡ before / region_words self.now }
+        ensures owner { result < self.now.mutators }
+    {
+        (before * self.reciprocal / SCALE) as u8
+    }
+
     /// The address at which the region of a mutator begins.
     fn start(&self, m: u8) -> u64
         requires { m < self.now.mutators }
         ensures start { result ≡ region_start self.now m }
-        ensures small { result ≤ 2097280 }
+        ensures address { result ≤ 2097280 }
     {
         let _ = &self.mutators;
         1 + u64::from(m) * self.region()
     }
 
+    /// The address of the first word of page 0.
+    fn pages_start(&self, m: u8) -> u64
+        requires { m < self.now.mutators }
+        ensures start { result ≡ address_of self.now m (Part.Page 0 0) }
+        ensures limits { IsWithinLimits self.now }
+        ensures address { result ≤ 2228368 }
+    {
+        self.start(m) + ROOTS + 2 * u64::from(self.nursery)
+    }
+
     /// The words of a region.
     fn region(&self) -> u64
         ensures words { result ≡ region_words self.now }
-        ensures small { result ≤ 262160 }
+        ensures most { result ≤ 262160 }
     {
-        ROOTS + 2 * u64::from(self.nursery) + u64::from(self.pages) * PAGE_WORDS
+        region(self.nursery, self.pages)
     }
 
     /// The part that has so many words of its region before it.
@@ -189,16 +277,30 @@ impl Places {
             return Part::Root { reg: before as u8 };
         }
         let in_halves = before - ROOTS;
-        if in_halves < 2 * nursery {
+        if in_halves < nursery {
             return Part::Half {
-                half: (in_halves / nursery) as u8,
-                offset: (in_halves % nursery) as u32,
+                half: 0,
+                offset: in_halves as u32,
             };
         }
-        let in_pages = in_halves - 2 * nursery;
+        let in_second = in_halves - nursery;
+        if in_second < nursery {
+            return Part::Half {
+                half: 1,
+                offset: in_second as u32,
+            };
+        }
+        let in_pages = in_second - nursery;
         Part::Page {
             page: (in_pages / PAGE_WORDS) as u16,
             offset: (in_pages % PAGE_WORDS) as u32,
         }
     }
+}
+
+/// The words of a region with so many words in a half and so many pages.
+fn region(nursery: u32, pages: u16) -> u64
+    ensures { result ≡ register_count + 2 * nursery + page_words * pages }
+{
+    ROOTS + 2 * u64::from(nursery) + u64::from(pages) * PAGE_WORDS
 }

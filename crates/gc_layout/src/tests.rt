@@ -1,20 +1,11 @@
-use crate::{AddFault, Head, Part, Places, Shape, TypeNo, Types};
+//! Worked values of shapes, types, headers and places.
+
+use crate::{AddFault, FIRST_SLOT, FORWARDING_WORD, Head, Part, Places, Shape, TypeNo, Types};
 use std::test::Fail;
 
 /// The shape of objects with so many slots and number fields.
 fn shape(slots: u8, numbers: u8) -> Shape {
     Shape { slots, numbers }
-}
-
-/// The header of an object of this type with all flags off.
-fn plain(ty: u8) -> Head {
-    Head {
-        ty: TypeNo(ty),
-        old: false,
-        seen: false,
-        remembered: false,
-        marked: false,
-    }
 }
 
 /// A word of half 0 or 1.
@@ -57,13 +48,21 @@ fn the_size_has_two_words_more_than_the_fields(rt: HostRuntime) {
 }
 
 #[test]
+fn the_numbers_stand_behind_the_slots(rt: HostRuntime) {
+    assert_eq!(rt; FORWARDING_WORD, 1);
+    assert_eq!(rt; FIRST_SLOT, 2);
+    assert_eq!(rt; shape(0, 3).first_number(), 2);
+    assert_eq!(rt; Shape::COMMON.first_number(), 18);
+}
+
+#[test]
 fn a_header_word_is_read_back(rt: HostRuntime) {
     let remembered = Head {
-        old: true,
         remembered: true,
-        ..plain(0)
+        ..Head::fresh(TypeNo(0), true)
     };
-    for (head, word) in [(plain(3), 4099), (remembered, 5376)] {
+    let young = Head::fresh(TypeNo(3), false);
+    for (head, word) in [(young, 4099), (remembered, 5376)] {
         assert_eq!(rt; head.word(), word);
         assert_eq!(rt; Head::of_word(word), Some(head));
     }
@@ -110,6 +109,64 @@ fn each_part_begins_at_its_address(rt: HostRuntime) -> Result<(), Fail> {
     assert_eq!(rt; places.root(7), 1_835_121);
     assert_eq!(rt; places.half_start(7, 1), 1_900_673);
     assert_eq!(rt; places.page_start(7, 127), 2_096_257);
+    Ok(())
+}
+
+#[test]
+fn the_owner_is_exact_at_each_regions_edges(rt: HostRuntime) -> Result<(), Fail> {
+    for (nursery, pages, region) in [
+        (64, 1, 1168),
+        (65, 1, 1170),
+        (4096, 8, 16_400),
+        (65_535, 127, 261_134),
+        (65_536, 128, 262_160),
+    ] {
+        let places = Places::make(8, nursery, pages).ok_or("no places")?;
+        let mut before: u64 = 0;
+        for owner in 0..8 {
+            let first = before.saturating_add(1);
+            let last = before.saturating_add(region);
+            assert_eq!(rt; places.owner(first), Some(owner), "at {first}");
+            assert_eq!(rt; places.owner(last), Some(owner), "at {last}");
+            assert_eq!(rt; places.part(first), Some(Part::Root { reg: 0 }));
+            before = last;
+        }
+        assert_eq!(rt; places.words(), before);
+        assert_eq!(rt; places.owner(before.saturating_add(1)), None);
+    }
+    Ok(())
+}
+
+#[test]
+fn halves_and_pages_are_told_apart(rt: HostRuntime) -> Result<(), Fail> {
+    let places = Places::make(2, 64, 1).ok_or("no places")?;
+    assert!(rt; places.mutators() == 2);
+    for (address, first, second, paged) in [
+        (1184, false, false, false),
+        (1185, true, false, false),
+        (1248, true, false, false),
+        (1249, false, true, false),
+        (1312, false, true, false),
+        (1313, false, false, true),
+        (2336, false, false, true),
+        (2337, false, false, false),
+        (17, false, false, false),
+    ] {
+        assert_eq!(rt; places.is_in_half(1, 0, address), first, "at {address}");
+        assert_eq!(rt; places.is_in_half(1, 1, address), second, "at {address}");
+        assert_eq!(rt; places.is_in_pages(1, address), paged, "at {address}");
+    }
+    Ok(())
+}
+
+#[test]
+fn a_cell_is_named_by_the_words_before_it(rt: HostRuntime) -> Result<(), Fail> {
+    let places = Places::make(2, 64, 2).ok_or("no places")?;
+    assert!(rt; places.mutators() == 2 && places.pages() == 2);
+    assert_eq!(rt; places.cell_address(0, 0), 145);
+    assert_eq!(rt; places.cell_address(1, 2044), 4381);
+    assert!(rt; places.is_in_pages(1, 4381));
+    assert_eq!(rt; places.cell_offset(1, 4381), 2044);
     Ok(())
 }
 

@@ -1,16 +1,16 @@
+//! The table of types.
+
 ghost use Rattle.std.specs.Prelude.{◌≡◌, ◌<◌, ◌≤◌, ◌↔◌, [], ◌∷◌, ◌++◌, length, slice_get, IfOk, IfSome, IsNone, OnErr, IsErrOf};
 ghost use Rattle.gc_layout.specs.Shape.{size_of, common_shape};
+ghost use Rattle.gc_layout.specs.Sizes.{largest_size};
 ghost use Rattle.gc_layout.specs.Types.{AreTypes};
 
-use crate::{NoMemory, Shape, TypeNo};
+use crate::{LARGEST_SIZE, NoMemory, Shape, TypeNo};
 use std::alloc::Global;
 use std::marker::Model;
 
 /// The most types that a table holds, the common object's among them.
 const MOST_TYPES: usize = 256;
-
-/// The largest object, in words.
-const LARGEST: u64 = 64;
 
 /// Why a type was refused.
 #[derive(Clone, Copy, Debug, PartialEq, Eq)]
@@ -47,21 +47,18 @@ impl Types {
         let Ok(mut shapes) = Vec::with_capacity(alloc, MOST_TYPES) else {
             return Err(NoMemory);
         };
-        shapes.push_reserved(Shape {
-            slots: 16,
-            numbers: 0,
-        });
+        shapes.push_reserved(Shape::COMMON);
         Ok(Types { shapes })
     }
 
     /// Appends a type. It takes no memory.
     pub fn add(&mut self, s: Shape) -> Result<TypeNo, AddFault>
         ensures added { IfOk result (λ ty. (ty.0 ≡ length self.old) × (self.new ≡ self.old ++ s ∷ [])) }
-        ensures wide { IsErrOf result AddFault.TooWide ↔ (64 < size_of s) }
-        ensures many { IsErrOf result AddFault.TooMany ↔ ((size_of s ≤ 64) × (length self.old ≡ 256)) }
+        ensures wide { IsErrOf result AddFault.TooWide ↔ (largest_size < size_of s) }
+        ensures many { IsErrOf result AddFault.TooMany ↔ ((size_of s ≤ largest_size) × (length self.old ≡ 256)) }
         ensures err { OnErr result (self.new ≡ self.old) }
     {
-        if s.size() > LARGEST {
+        if s.size() > LARGEST_SIZE {
             return Err(AddFault::TooWide);
         }
         let count = self.shapes.len();
@@ -76,7 +73,7 @@ impl Types {
     pub fn shape(&self, ty: TypeNo) -> Option<Shape>
         ensures value { result ≡ slice_get self.now ty.0 }
         ensures none { IsNone result ↔ (length self.now ≤ ty.0) }
-        ensures small { IfSome result (λ shape. size_of shape ≤ 64) }
+        ensures size { IfSome result (λ shape. size_of shape ≤ largest_size) }
     {
         self.shapes.get(usize::from(ty.0)).copied()
     }

@@ -1,17 +1,15 @@
-use Rattle.std.proofs.Common.{◌≡◌, ◌-◌, ◌%◌, ◌≤◌, Some, ap, arith}
-use Rattle.gc_layout.specs.Places.{region_words, word_count, words_before, address_of}
-use Rattle.gc_layout.proofs.PlacesLemmas.{address-within, address-before, same_part}
+use Rattle.std.proofs.Common.{◌≡◌, ◌∙◌, ◌*◌, Some, ap, ap₂, arith}
+use Rattle.gc_layout.specs.Places.{region_words, words_before, owner_of}
+use Rattle.gc_layout.proofs.PlacesLemmas.{address-owner, same_part}
 use Rattle.gc_layout.proofs.places.Places.part.Goals as goal
-use Rattle.gc_layout.proofs.places.Places.part.Goals.{then-a-eq0-via-then-a-eq0, then-a-eq0-via-else-a-eq0+then-a-words}
 
--- no part of a mutator lies at 0 or above the number of words
-pub returns-then-a-eq0-clause-exact : goal.returns-then-a-eq0-clause-exact
-returns-then-a-eq0-clause-exact c = λ m part h j e.
-    let within : address_of c.args.self.now m part ≤ word_count c.args.self.now = address-within c.args.self.now m part h j in
-    elim c.then-a-eq0.branch [ then-a-eq0-via-then-a-eq0 w ↦ absurd (omega arith) | then-a-eq0-via-else-a-eq0+then-a-words w ↦ absurd (omega arith) ]
-
--- the part that was found and the part at that address have as many words before them
-pub returns-clause-exact : goal.returns-clause-exact
-returns-clause-exact c = λ m part h j e.
-    let before : (c.args.a - 1) % region_words c.args.self.now ≡ words_before c.args.self.now part = address-before c.args.self.now m c.args.a part j e in
-    ap Some (same_part c.args.self.now c.part_after.result part c.part_after.ensures.inside j (cc))
+-- the part that was computed and the part at that address have as many words before them
+pub returns-then-is_address-clause-exact : goal.returns-then-is_address-clause-exact
+returns-then-is_address-clause-exact c = λ m part there inside address.
+    let owner : owner_of c.args.self.now c.args.a ≡ m = address-owner c.args.self.now m c.args.a part inside address in
+    let same : c.regions_before-owner.result ≡ m = cc in
+    let product : c.from.result * c.region.result ≡ m * region_words c.args.self.now =
+    ap₂ (λ left right. left * right) (c.from.ensures ∙ same) c.region.ensures.words in
+    let before : words_before c.args.self.now c.part_after.result ≡ words_before c.args.self.now part =
+    omega (arith, product, c.part_after.ensures.before, address) in
+    ap Some (same_part c.args.self.now c.part_after.result part c.part_after.ensures.inside inside before)
