@@ -12,17 +12,17 @@ abbrev pub common_shape : Shape
 common_shape = record { slots = common_slots; numbers = 0 }
 
 -- the forwarding word stands behind the header
-abbrev pub forwarding_at : ℕ → ℕ
-forwarding_at address = address + forwarding_word
+abbrev pub forwarding_address : ℕ → ℕ
+forwarding_address address = address + forwarding_word
 
 -- the slots stand behind the forwarding word
-abbrev pub slot_at : ℕ → ℕ → ℕ
-slot_at address place = address + first_slot + place
+abbrev pub slot_address : ℕ → ℕ → ℕ
+slot_address address place = address + first_slot + place
 
 -- how far the numbers stand behind the header: behind all slots
 abbrev pub first_number : Shape → ℕ
 first_number shape = first_slot + shape.slots
 
 -- the numbers stand behind all slots
-abbrev pub number_at : ℕ → Shape → ℕ → ℕ
-number_at address shape place = address + first_number shape + place
+abbrev pub number_address : ℕ → Shape → ℕ → ℕ
+number_address address shape place = address + first_number shape + place
