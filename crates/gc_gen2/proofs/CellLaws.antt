@@ -74,8 +74,15 @@ others-from pages class offset page within start same own other apart =
     let was : page_at pages q ≡ page_at pages p = ap (page_at pages) here in
     let far : other % 1024 % own ≡ 0 → own ≡ class → number ≢ offset % 1024 / class = λ begins one e.
     let at : other % 1024 ≡ offset % 1024 =
-    omega
-    (arith, div-add-mod' (other % 1024) own, begins, ap (λ n. n * own) e, ap (λ x. offset % 1024 / class * x) one, div-add-mod' (offset % 1024) class, start)
+    omega (
+      arith,
+      div-add-mod' (other % 1024) own,
+      begins,
+      ap (λ n. n * own) e,
+      ap (λ x. offset % 1024 / class * x) one,
+      div-add-mod' (offset % 1024) class,
+      start,
+    )
     in
     apart (omega arith)
     in (
@@ -144,7 +151,8 @@ GivesCell-at pages class offset are is =
       others = others-from pages class offset (with_free page n) within is.cell.start (SameButCell-mark page class n false is.cell.page);
       classes = λ q.
           ⊎_elim
-          (λ here. ap (λ k. class_at (set pages p (with_free page n)) k) here ∙ ap (λ (x : Page). x.class) now ∙ ap (class_at pages) (sym here))
+          (λ here. ap (λ k. class_at (set pages p (with_free page n)) k) here ∙ ap (λ (x : Page). x.class) now
+          ∙ ap (class_at pages) (sym here))
           (λ elsewhere. ap (λ (x : Page). x.class) (page_at-set_other pages p q (with_free page n) elsewhere))
           (cases_eq q p);
       count = omega (arith, sum_by-set used_in pages p (with_free page n) free_page within, used_in-with_free page n cell is.used);

@@ -56,8 +56,16 @@ IsFreeSet-set own words v number is within same =
       four = length-set words (number / 64) v ∙ is.four;
       fit = λ i.
           ⊎_elim
-          (λ here. let e : get_or (set words (number / 64) v) i 0 ≡ v = ap (λ k. get_or (set words (number / 64) v) k 0) here ∙ get_or-set_same words (number / 64) v 0 word in rw e same.fits)
-          (λ elsewhere. let e : get_or (set words (number / 64) v) i 0 ≡ get_or words i 0 = get_or-set_other words (number / 64) i v 0 elsewhere in rw e (is.fit i))
+          (λ here.
+          let e : get_or (set words (number / 64) v) i 0 ≡ v =
+          ap (λ k. get_or (set words (number / 64) v) k 0) here ∙ get_or-set_same words (number / 64) v 0 word
+          in
+          rw e same.fits)
+          (λ elsewhere.
+          let e : get_or (set words (number / 64) v) i 0 ≡ get_or words i 0 =
+          get_or-set_other words (number / 64) i v 0 elsewhere
+          in
+          rw e (is.fit i))
           (cases_eq i (number / 64));
       no_more = λ k past low.
           let apart : k ≢ number = λ e. absurd (omega arith) in

@@ -46,7 +46,9 @@ no_used : (class own other : ℕ) → HasUsed (empty_page class) own other → �
 no_used class own other has =
     ⊎_elim
     (λ lt. both_ways _ (get_or-replicate (cells_in class) other false false lt) has.1)
-    (λ le. both_ways _ (get_or_past (replicate (cells_in class) false) other false (omega (arith, length-replicate (cells_in class) false))) has.1)
+    (λ le.
+    let past = get_or_past (replicate (cells_in class) false) other false (omega (arith, length-replicate (cells_in class) false)) in
+    both_ways _ past has.1)
     (cases_lt other (cells_in class))
 
 no_used_free : (page : Page) (own other : ℕ) → is_free_page page ≡ true → HasUsed page own other → ⊥
@@ -95,7 +97,9 @@ IsNextCell-room pages class p are first =
           omega (arith, mul-le n class m class after (omega arith)))
           (λ order.
           ⊎_elim
-          (λ before. absurd (both_ways _ ((position-Some (λ x. has_room x class) pages p free_page first).2 q before) (free-room pages class other are free)))
+          (λ before.
+          let full = (position-Some (λ x. has_room x class) pages p free_page first).2 q before in
+          absurd (both_ways _ full (free-room pages class other are free)))
           (λ after. omega (arith, cell-inside class n (omega (arith, room.cell, cells-there pages p class are room.class))))
           order)
           (cases_order q p);
@@ -120,7 +124,9 @@ IsNextCell-fresh pages class p are is none first =
           (used_in-empty class ∙ sym (used_in-none page (class-from_free page.class at.1) (page_at-well_formed pages p are at.0)));
       least = λ other free.
           absurd
-          (both_ways _ (none-fails (λ x. has_room x class) pages free_page none (other / 1024) (page-within pages (other / 1024) class free.cell.page)) (free-room pages class other are free));
+          (both_ways _
+          (none-fails (λ x. has_room x class) pages free_page none (other / 1024) (page-within pages (other / 1024) class free.cell.page))
+          (free-room pages class other are free));
     }
 
 -- the pages where that cell is used, by its page and number
@@ -194,8 +200,12 @@ TakesCell-at pages class offset p n is it =
       apart = λ own other was.
           let there = (others own other (λ e. unused (own, rw e at was))).1 was in
           cells-apart new class own offset other used.cell there.cell (λ e. unused (own, rw (sym e) at was));
-      count = omega
-          (arith, sum_by-set used_in pages p (with_used page n) free_page it.within, used_in-with_used page n (omega (arith, long, it.cell)) it.free, it.count);
+      count = omega (
+        arith,
+        sum_by-set used_in pages p (with_used page n) free_page it.within,
+        used_in-with_used page n (omega (arith, long, it.cell)) it.free,
+        it.count,
+      );
     }
 
 -- which cell is the next
@@ -203,14 +213,16 @@ pub next-room : (pages : List Page) (class p : ℕ) → first_page_with_room pag
     → next_cell pages class ≡ Some (offset_of class p (first_free_in (page_at pages p)))
 next-room pages class p room =
     ap
-    (λ o. option_or (option_map (λ q. offset_of class q (first_free_in (page_at pages q))) o) (option_map (λ q. offset_of class q 0) (first_free_page pages)))
+    (λ o. option_or (option_map (λ q. offset_of class q (first_free_in (page_at pages q))) o)
+    (option_map (λ q. offset_of class q 0) (first_free_page pages)))
     room
 
 pub next-fresh : (pages : List Page) (class : ℕ) (first : Option ℕ) → first_page_with_room pages class ≡ None
     → first_free_page pages ≡ first → next_cell pages class ≡ option_map (λ q. offset_of class q 0) first
 next-fresh pages class first none fresh =
     ap
-    (λ o. option_or (option_map (λ q. offset_of class q (first_free_in (page_at pages q))) o) (option_map (λ q. offset_of class q 0) (first_free_page pages)))
+    (λ o. option_or (option_map (λ q. offset_of class q (first_free_in (page_at pages q))) o)
+    (option_map (λ q. offset_of class q 0) (first_free_page pages)))
     none
     ∙ ap (option_map (λ q. offset_of class q 0)) fresh
 

@@ -81,7 +81,8 @@ free_in-le page class is =
 pub used_in-empty : (class : ℕ) → used_in (empty_page class) ≡ 0
 used_in-empty class =
     sum_by-zero (λ used. cond used 1 0) (replicate (cells_in class) false) false
-    (λ k within. ap (λ b. cond b 1 0) (get_or-replicate (cells_in class) k false false (omega (arith, length-replicate (cells_in class) false))))
+    (λ k within.
+    ap (λ b. cond b 1 0) (get_or-replicate (cells_in class) k false false (omega (arith, length-replicate (cells_in class) false))))
 
 pub free_in-empty : (class : ℕ) → free_in (empty_page class) class ≡ cells_in class
 free_in-empty class =

@@ -89,11 +89,19 @@ used_cells-le pages are =
 
 pub free_cells-le : (pages : List Page) (class : ℕ) → IsWellFormed pages → free_cells pages class ≤ 32768
 free_cells-le pages class are =
-    omega
-    (arith, are.few, sum_by-le (λ page. free_in page class) 256 pages (All-weaker IsWellFormedPage (λ page. free_in page class ≤ 256) (λ page. free_in-le page class) pages are.each))
+    omega (
+      arith,
+      are.few,
+      sum_by-le (λ page. free_in page class) 256 pages
+          (All-weaker IsWellFormedPage (λ page. free_in page class ≤ 256) (λ page. free_in-le page class) pages are.each),
+    )
 
 -- a class with room has a free cell
 pub free_cells-room : (pages : List Page) (p class : ℕ) → HasRoom pages p class → 1 ≤ free_cells pages class
 free_cells-room pages p class room =
-    omega
-    (arith, room.some, free_in-same (page_at pages p) class room.class, get_or-le-sum_by (λ x. free_in x class) pages p free_page room.within)
+    omega (
+      arith,
+      room.some,
+      free_in-same (page_at pages p) class room.class,
+      get_or-le-sum_by (λ x. free_in x class) pages p free_page room.within,
+    )

@@ -88,11 +88,13 @@ first_page_with_room-given pages class p is none first =
     (λ k below.
     ap (λ x. has_room x class) (page_at-set_other pages p k page (λ e. absurd (omega arith)))
     ∙ none-fails (λ x. has_room x class) pages free_page none k (omega arith))
-    (ap (λ x. has_room x class) (page_at-set_same pages p page within) ∙ lt-ltb 0 _ (omega (arith, free_in-empty class, cells_in-ge class is)))
+    (ap (λ x. has_room x class) (page_at-set_same pages p page within)
+    ∙ lt-ltb 0 _ (omega (arith, free_in-empty class, cells_in-ge class is)))
 
 -- then its first cell is the first free one
 pub pages-given : (pages : List Page) (class p : ℕ) → IsClass class → first_free_page pages ≡ Some p
-    → set (set pages p (empty_page class)) p (with_used (page_at (set pages p (empty_page class)) p) (first_free_in (page_at (set pages p (empty_page class)) p))) ≡ set pages p (with_used (page_for (page_at pages p) class) 0)
+    → (let given = set pages p (empty_page class) in set given p (with_used (page_at given p) (first_free_in (page_at given p))))
+    ≡ set pages p (with_used (page_for (page_at pages p) class) 0)
 pages-given pages class p is first =
     let at = position-Some is_free_page pages p free_page first in
     let page = empty_page class in

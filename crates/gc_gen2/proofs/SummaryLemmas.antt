@@ -87,7 +87,9 @@ pub AreInOrder-set : (pages : List Page) (w p : ℕ) (page : Page) → AreInOrde
 AreInOrder-set pages w p page are within same =
     let free : (q : ℕ) → is_free_page (page_at (set pages p page) q) ≡ is_free_page (page_at pages q) = λ q.
     ⊎_elim
-    (λ here. ap (λ k. is_free_page (page_at (set pages p page) k)) here ∙ ap is_free_page (page_at-set_same pages p page within) ∙ same ∙ ap (λ k. is_free_page (page_at pages k)) (sym here))
+    (λ here.
+    ap (λ k. is_free_page (page_at (set pages p page) k)) here ∙ ap is_free_page (page_at-set_same pages p page within)
+    ∙ same ∙ ap (λ k. is_free_page (page_at pages k)) (sym here))
     (λ elsewhere. ap is_free_page (page_at-set_other pages p q page elsewhere))
     (cases_eq q p)
     in
@@ -245,7 +247,15 @@ IsSummary-with_used pages sets counts used with_class sums p class room is sets'
     (ChangesPage-cell page n class true (page_at-well_formed pages p sums.well_formed room.within) room.class)
     sets' changed
     _
-    (omega (arith, sums.free class is, free_in-same page class room.class, free_in-same (with_used page n) class room.class, free-with_used page n room.cell room.free, room.some, get_or-le-sum_by (λ x. free_in x class) pages p free_page room.within))
+    (omega (
+      arith,
+      sums.free class is,
+      room.some,
+      free_in-same page class room.class,
+      free_in-same (with_used page n) class room.class,
+      free-with_used page n room.cell room.free,
+      get_or-le-sum_by (λ x. free_in x class) pages p free_page room.within,
+    ))
     _ (omega (arith, sums.used, used_in-with_used page n room.cell room.free))
     with_class (AreInOrder-set pages with_class p (with_used page n) sums.in_order room.within refl)
 
@@ -283,7 +293,9 @@ IsSummary-filled pages sets counts used with_class sums p class room is full =
     (free_in-same (with_used (page_at pages p) (first_free_in (page_at pages p))) class room.class ∙ full)
     in
     IsSummary-with_used pages sets counts used with_class sums p class room is _
-    (rw bit (ChangesRoom-clear sets (class / 4 - 1) p sums.sixteen_sets sums.fit (omega (arith, is.few)) (omega (arith, room.within, sums.well_formed.few))))
+    (rw bit
+    (ChangesRoom-clear sets (class / 4 - 1) p sums.sixteen_sets sums.fit (omega (arith, is.few))
+    (omega (arith, room.within, sums.well_formed.few))))
 
 pub IsSummary-not_filled : (pages : List Page) (sets counts : List ℕ) (used with_class : ℕ) → IsSummary pages sets counts used with_class
     → (p class : ℕ) → HasRoom pages p class → IsClass class
@@ -298,4 +310,6 @@ IsSummary-not_filled pages sets counts used with_class sums p class room is rest
     let bit : room_bit fuller class ≡ 1 = cond-true {A = ℕ} (has_room fuller class) 1 0 (lt-ltb _ _ some) in
     let was : room_bit page class ≡ 1 = cond-true {A = ℕ} (has_room page class) 1 0 (lt-ltb _ _ before) in
     IsSummary-with_used pages sets counts used with_class sums p class room is sets
-    (rw bit (ChangesRoom-same sets (class / 4 - 1) p 1 sums.sixteen_sets sums.fit (sums.rooms class is p (omega (arith, room.within, sums.well_formed.few)) ∙ was)))
+    (rw bit
+    (ChangesRoom-same sets (class / 4 - 1) p 1 sums.sixteen_sets sums.fit
+    (sums.rooms class is p (omega (arith, room.within, sums.well_formed.few)) ∙ was)))

@@ -56,7 +56,8 @@ invariant_of-self c =
     c.self.invariant.well_formed is c.index_mut-cells.ensures.value c.class.ensures c.unwrap-class.ensures c.from.ensures
     c.give.ensures in
     rw (c.index_of-index.ensures.index, of.new)
-    (IsSummary-with_free _ _ _ _ _ c.self.invariant (c.args.offset / 1024) c.unwrap-class.result (c.args.offset % 1024 / c.unwrap-class.result) of.within of.is.cell.page of.is_class of.cell of.is.used)
+    (IsSummary-with_free _ _ _ _ _ c.self.invariant (c.args.offset / 1024) c.unwrap-class.result
+    (c.args.offset % 1024 / c.unwrap-class.result) of.within of.is.cell.page of.is_class of.cell of.is.used)
 
 pub returns-clause-gives : goal.returns-clause-gives
 returns-clause-gives c =

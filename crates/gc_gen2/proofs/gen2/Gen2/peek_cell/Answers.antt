@@ -27,7 +27,10 @@ returns-in-Some-clause-none c =
 
 pub returns-in_default-page_without_class-clause-none : goal.returns-in_default-page_without_class-clause-none
 returns-in_default-page_without_class-clause-none c = (
-  (λ _. (free_cells-none c.args.self.now c.args.class (sym c.page_with_room.ensures.page ∙ c.in_default.is), free_pages-none c.args.self.now (sym c.page_without_class.ensures ∙ c.in_default-page_without_class.is))),
+  (λ _. (
+    free_cells-none c.args.self.now c.args.class (sym c.page_with_room.ensures.page ∙ c.in_default.is),
+    free_pages-none c.args.self.now (sym c.page_without_class.ensures ∙ c.in_default-page_without_class.is),
+  )),
   λ _. refl,
 )
 

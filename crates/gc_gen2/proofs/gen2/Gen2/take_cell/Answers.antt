@@ -44,6 +44,22 @@ takes-fresh old given new class offset p are is none first gives at takes =
           ∙ pages-given old class p is first;
     }
 
+-- the cell of a page with room, and the cell of a page that was just given the class
+of_room : (c : goal.After-take_in)
+    → Takes c.args.self.now c.take_in.new.self c.args.class c.take_in.result c.in-Some.page
+    (first_free_in (page_at c.args.self.now c.in-Some.page))
+of_room c =
+    takes-room c.args.self.now c.take_in.new.self c.args.class c.take_in.result c.in-Some.page c.page_with_room.ensures.pages
+    (sym c.page_with_room.ensures.page ∙ c.in-Some.is) c.take_in.ensures.cell c.take_in.ensures.pages
+
+of_fresh : (c : goal.After-take_in-2)
+    → Takes c.args.self.now c.take_in-2.new.self c.args.class c.take_in-2.result c.in-Some-page_without_class.page 0
+of_fresh c =
+    takes-fresh c.args.self.now c.give_class.new.self c.take_in-2.new.self c.args.class c.take_in-2.result
+    c.in-Some-page_without_class.page c.page_with_room.ensures.pages c.requires (sym c.page_with_room.ensures.page ∙ c.in_default.is)
+    (sym c.page_without_class.ensures ∙ c.in-Some-page_without_class.is) c.give_class.ensures c.take_in-2.ensures.cell
+    c.take_in-2.ensures.pages
+
 pub returns-in-Some-clause-none : goal.returns-in-Some-clause-none
 returns-in-Some-clause-none c =
     let some = free_cells-some c.args.self.now c.args.class c.in-Some.page (sym c.page_with_room.ensures.page ∙ c.in-Some.is) in
@@ -51,22 +67,19 @@ returns-in-Some-clause-none c =
 
 pub returns-in-Some-clause-pages : goal.returns-in-Some-clause-pages
 returns-in-Some-clause-pages c =
-    let of =
-    takes-room c.args.self.now c.take_in.new.self c.args.class c.take_in.result c.in-Some.page c.page_with_room.ensures.pages
-    (sym c.page_with_room.ensures.page ∙ c.in-Some.is) c.take_in.ensures.cell c.take_in.ensures.pages in
-    of.pages ∙ sym (with_cell-is c.args.self.now c.args.class c.take_in.result _ _ c.requires of.cell)
+    (of_room c).pages ∙ sym (with_cell-is c.args.self.now c.args.class c.take_in.result _ _ c.requires (of_room c).cell)
 
 pub returns-in-Some-clause-takes : goal.returns-in-Some-clause-takes
 returns-in-Some-clause-takes c =
-    let of =
-    takes-room c.args.self.now c.take_in.new.self c.args.class c.take_in.result c.in-Some.page c.page_with_room.ensures.pages
-    (sym c.page_with_room.ensures.page ∙ c.in-Some.is) c.take_in.ensures.cell c.take_in.ensures.pages in
-    rw of.pages (TakesCell-at c.args.self.now c.args.class c.take_in.result _ _ c.requires of.cell)
+    rw (of_room c).pages (TakesCell-at c.args.self.now c.args.class c.take_in.result _ _ c.requires (of_room c).cell)
 
 pub returns-in_default-page_without_class-clause-none :
     goal.returns-in_default-page_without_class-clause-none
 returns-in_default-page_without_class-clause-none c = (
-  (λ _. (free_cells-none c.args.self.now c.args.class (sym c.page_with_room.ensures.page ∙ c.in_default.is), free_pages-none c.args.self.now (sym c.page_without_class.ensures ∙ c.in_default-page_without_class.is))),
+  (λ _. (
+    free_cells-none c.args.self.now c.args.class (sym c.page_with_room.ensures.page ∙ c.in_default.is),
+    free_pages-none c.args.self.now (sym c.page_without_class.ensures ∙ c.in_default-page_without_class.is),
+  )),
   λ _. refl,
 )
 
@@ -77,35 +90,20 @@ take_in-requires-2-clause-page c =
     (sym c.page_with_room.ensures.page ∙ c.in_default.is) (sym c.page_without_class.ensures ∙ c.in-Some-page_without_class.is)
 
 pub returns-clause-cell : goal.returns-clause-cell
-returns-clause-cell c =
-    let of =
-    takes-fresh c.args.self.now c.give_class.new.self c.take_in-2.new.self c.args.class c.take_in-2.result
-    c.in-Some-page_without_class.page c.page_with_room.ensures.pages c.requires
-    (sym c.page_with_room.ensures.page ∙ c.in_default.is) (sym c.page_without_class.ensures ∙ c.in-Some-page_without_class.is)
-    c.give_class.ensures c.take_in-2.ensures.cell c.take_in-2.ensures.pages in
-    sym of.next
+returns-clause-cell c = sym (of_fresh c).next
 
 pub returns-clause-none : goal.returns-clause-none
 returns-clause-none c =
     let some =
     free_pages-some c.args.self.now c.in-Some-page_without_class.page
-    (sym c.page_without_class.ensures ∙ c.in-Some-page_without_class.is) in
+    (sym c.page_without_class.ensures ∙ c.in-Some-page_without_class.is)
+    in
     ((λ e. absurd (true≢false e)), λ none. absurd (omega (arith, some, none.1)))
 
 pub returns-clause-pages : goal.returns-clause-pages
 returns-clause-pages c =
-    let of =
-    takes-fresh c.args.self.now c.give_class.new.self c.take_in-2.new.self c.args.class c.take_in-2.result
-    c.in-Some-page_without_class.page c.page_with_room.ensures.pages c.requires
-    (sym c.page_with_room.ensures.page ∙ c.in_default.is) (sym c.page_without_class.ensures ∙ c.in-Some-page_without_class.is)
-    c.give_class.ensures c.take_in-2.ensures.cell c.take_in-2.ensures.pages in
-    of.pages ∙ sym (with_cell-is c.args.self.now c.args.class c.take_in-2.result _ _ c.requires of.cell)
+    (of_fresh c).pages ∙ sym (with_cell-is c.args.self.now c.args.class c.take_in-2.result _ _ c.requires (of_fresh c).cell)
 
 pub returns-clause-takes : goal.returns-clause-takes
 returns-clause-takes c =
-    let of =
-    takes-fresh c.args.self.now c.give_class.new.self c.take_in-2.new.self c.args.class c.take_in-2.result
-    c.in-Some-page_without_class.page c.page_with_room.ensures.pages c.requires
-    (sym c.page_with_room.ensures.page ∙ c.in_default.is) (sym c.page_without_class.ensures ∙ c.in-Some-page_without_class.is)
-    c.give_class.ensures c.take_in-2.ensures.cell c.take_in-2.ensures.pages in
-    rw of.pages (TakesCell-at c.args.self.now c.args.class c.take_in-2.result _ _ c.requires of.cell)
+    rw (of_fresh c).pages (TakesCell-at c.args.self.now c.args.class c.take_in-2.result _ _ c.requires (of_fresh c).cell)

@@ -7,7 +7,8 @@ use Rattle.gc_gen2.proofs.page.PageCells.first_free.Goals as goal
 pub returns-then-word-ne0 : goal.returns-then-word-ne0
 returns-then-word-ne0 c =
     sym
-    (first_free_cell-lowest c.self.inside.class c.self.inside.free c.loop-i.i _ c.self.invariant (omega (arith, c.self.invariant.four)) c.loop-i.invariant c.if-word-ne0.true refl)
+    (first_free_cell-lowest c.self.inside.class c.self.inside.free c.loop-i.i _ c.self.invariant
+    (omega (arith, c.self.invariant.four)) c.loop-i.invariant c.if-word-ne0.true refl)
     ∙ ap (λ (page : Page). position not page.used) c.self.view_is
 
 pub returns : goal.returns
