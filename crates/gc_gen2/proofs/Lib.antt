@@ -1,0 +1,10 @@
+pub mod BitLemmas
+pub mod CellLaws
+pub mod ClassLemmas
+pub mod FreeSetLemmas
+pub mod ListLemmas
+pub mod NextCellLaws
+pub mod PageLemmas
+pub mod PagesLemmas
+pub mod RoomLemmas
+pub mod SummaryLemmas
