@@ -1,0 +1,5 @@
+pub mod Bay
+pub mod Extent
+pub mod Inside
+pub mod Lending
+pub mod Room
