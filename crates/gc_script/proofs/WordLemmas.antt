@@ -3,6 +3,7 @@ use Rattle.std.proofs.Common.{◌≡◌, ◌≢◌, ℕ, zero, suc, ◌+◌, ◌
 use Rattle.std.proofs.Math.Numerals.{add-one}
 use Rattle.std.proofs.lemmas.List.{take_rest}
 use Rattle.std.proofs.lemmas.Bool.{cases_eq, ne_eqb}
+use Rattle.gc_script.proofs.ListLemmas.{take-front}
 use Rattle.gc_script.specs.Text.{with_first, words_of, bytes_before, first_line, after_line, word_end, words_from, after_from}
 
 -- where a space ends the first word, the line goes on behind it
@@ -59,12 +60,6 @@ word-last (byte ∷ bytes) past =
           ]
     ]
 
--- the first so many of the first so many and more are the first so many of all
-pub take-front : {X : Type 0} (n : ℕ) (xs ys : List X) → take n (take n xs ++ ys) ≡ take n (xs ++ ys)
-take-front zero xs ys = refl
-take-front (suc n) [] ys = refl
-take-front {X = X} (suc n) (x ∷ xs) ys = ap (λ (zs : List X). x ∷ zs) (take-front n xs ys)
-
 -- the first word of a text, and those from it on
 pub cut-words : (text : List ℕ) (end : ℕ) → end ≡ word_end text → end < length text → words_of (first_line text) ≡ words_from (take end text) (eqb (get_or text end 0) 32) (take (length text - (end + 1)) (drop (end + 1) text))
 cut-words text end is within =
@@ -85,10 +80,10 @@ cut-after text end is within =
       | inr other ↦ rw (ne_eqb _ _ other) (word-newline text inside other).1
     ])
 
--- a word that is kept goes behind those so far
-pub keep-more : (old new : List (List ℕ)) (word : List ℕ) (rest from whole : List (List ℕ)) → new ≡ take 7 (old ++ word ∷ []) → rest ≡ from → take 7 (old ++ word ∷ rest) ≡ whole → take 7 (new ++ from) ≡ whole
-keep-more old new word rest from whole kept same is =
-    rw (kept, ← same, take-front 7 (old ++ word ∷ []) rest, append_assoc old (word ∷ []) rest) is
+-- a word that goes behind those so far
+pub append-more : (old new : List (List ℕ)) (word : List ℕ) (rest from whole : List (List ℕ)) → new ≡ take 7 (old ++ word ∷ []) → rest ≡ from → take 7 (old ++ word ∷ rest) ≡ whole → take 7 (new ++ from) ≡ whole
+append-more old new word rest from whole grown same is =
+    rw (grown, ← same, take-front 7 (old ++ word ∷ []) rest, append_assoc old (word ∷ []) rest) is
 
 -- what stands behind the first line is shorter than the text
 pub after_line-shorter : (bytes : List ℕ) → 0 < length bytes → length (after_line bytes) < length bytes
