@@ -1,7 +1,6 @@
 -- The table of calls, both ways; and what a call line that is read says.
 use Rattle.std.proofs.Common.{◌≡◌, ℕ, ◌+◌, ◌<◌, List, [], ◌∷◌, length, Bool, true, false, Some, Result, Ok, Err, refl, sym, subst, ap, ap₂, ◌∙◌, arith, ◌==◌, if◌then◌else◌, decimal}
 use Rattle.std.proofs.lemmas.Bool.{eqb-true}
-use Rattle.std.proofs.lemmas.Slice.Eq.{bytes_eq-Decides}
 use Rattle.std.specs.Str.{bytes_eq}
 use Rattle.gc_model.specs.Answer.{Suits}
 use Rattle.gc_model.specs.Interim.{IsBuilt}
@@ -19,14 +18,14 @@ use Rattle.gc_script.specs.Script.{Preamble, IsFitLine, IsScriptLine}
 use Rattle.gc_script.specs.Words.{number_below, numbers_of}
 use Rattle.gc_script.specs.Written.{words_of_kinds, words_of_parts, call_words}
 use Rattle.gc_script.proofs.KindLemmas.{number_below-written, number_below-fits, words-read}
-use Rattle.gc_script.proofs.Passed.{if-passes, both-pass}
+use Rattle.gc_script.proofs.Passed.{if-passes, both-pass, bytes_eq-true}
 
 -- a call word that is read is written as it was
 spelled_among-written : (among : List CallWord) (word : List ℕ) (kind : CallWord)
     → spelled_among among word ≡ Ok kind → word ≡ spelled_word kind
 spelled_among-written [] word kind h = absurd cc
 spelled_among-written (here ∷ others) word kind h =
-    go (bytes_eq word (spelled_word here)) ((bytes_eq-Decides word (spelled_word here)).0) h
+    go (bytes_eq word (spelled_word here)) (bytes_eq-true word (spelled_word here)) h
     (spelled_among-written others word kind) where
       go : (b : Bool) → (b ≡ true → word ≡ spelled_word here) → (if b then Ok here else spelled_among others word) ≡ Ok kind
           → (spelled_among others word ≡ Ok kind → word ≡ spelled_word kind) → word ≡ spelled_word kind
@@ -59,7 +58,7 @@ pub kinds-length : (types : ℕ) (kinds : List Kind) (numbers : List ℕ) → Ar
 kinds-length types [] [] h = refl
 kinds-length types [] (number ∷ numbers) h = absurd h
 kinds-length types (kind ∷ kinds) [] h = absurd h
-kinds-length types (kind ∷ kinds) (number ∷ numbers) h = omega (arith, kinds-length types kinds numbers h.1)
+kinds-length types (kind ∷ kinds) (number ∷ numbers) (first, others) = omega (arith, kinds-length types kinds numbers others)
 
 -- a call that is made of numbers of its word's kinds is readable
 pub made-readable : (types : ℕ) (word : CallWord) (numbers : List ℕ) → AreOfKinds types (kinds_of word) numbers
@@ -80,7 +79,7 @@ pub script_line-fit : (preamble : Preamble) (line : Line) → length preamble.na
     → IsScriptLine preamble line → IsFitLine preamble line
 script_line-fit preamble line types read =
     let Fit : ℕ → Type 0 = λ count. Suits count line.call in
-    (read.0, subst Fit types (readable-suits (length preamble.names + 1) line.call read.1))
+    (read.mutator, subst Fit types (readable-suits (length preamble.names + 1) line.call read.call))
 
 pub readable-built : (types : ℕ) (call : Call) → IsReadable types call → IsBuilt call
 readable-built types calls.Collect h = absurd h
@@ -122,9 +121,9 @@ call_line-read preamble (mutator ∷ word ∷ arguments) line h =
     let again = parts-again kind.value numbers.value (kinds-length _ (kinds_of kind.value) numbers.value read.fit) in
     rw line-is (record {
       written = cc (mutator-is, counted.spelled, read.written, ap (words_of_parts preamble.names) again);
-      fits = (
-        number_below-fits preamble.mutators _ mutator t.value t.first_gives,
-        made-readable (length preamble.names + 1) kind.value numbers.value read.fit,
-      );
+      fits = record {
+        mutator = number_below-fits preamble.mutators _ mutator t.value t.first_gives;
+        call = made-readable (length preamble.names + 1) kind.value numbers.value read.fit;
+      };
     })
 call_line-read preamble words line h = absurd cc

@@ -3,7 +3,6 @@ use Rattle.std.proofs.Common.{◌≡◌, ℕ, suc, ◌+◌, ◌^◌, ◌<◌, �
 use Rattle.std.proofs.lemmas.Bool.Decides.{nat_tests}
 use Rattle.std.proofs.lemmas.Bool.{eqb-true}
 use Rattle.std.proofs.lemmas.Fmt.{decimal-digits_value}
-use Rattle.std.proofs.lemmas.Slice.Eq.{bytes_eq-Decides}
 use Rattle.std.proofs.lemmas.Str.Parse.{numerals_by_value, tells_all_ascii_digits}
 use Rattle.std.specs.Fmt.{decimal}
 use Rattle.std.specs.Str.{all_ascii_digits, bytes_eq}
@@ -15,7 +14,7 @@ use Rattle.gc_script.specs.Calls.{IsOfKind, AreOfKinds}
 use Rattle.gc_script.specs.Fault.{◌>>=◌}
 use Rattle.gc_script.specs.Words.{is_numeral, numeral, below, number_below, register, type_from, number_of, numbers_of}
 use Rattle.gc_script.specs.Written.{register_word, name_of, word_of, words_of_kinds}
-use Rattle.gc_script.proofs.Passed.{if-passes, both-pass}
+use Rattle.gc_script.proofs.Passed.{if-passes, both-pass, bytes_eq-true}
 
 -- a numeral has a digit or more
 numeral-nonempty : (word : List ℕ) → is_numeral word ≡ true → 0 < length word
@@ -111,7 +110,7 @@ type_from-named : (from : ℕ) (names : List (List ℕ)) (word : List ℕ) (ty :
 unfolding type_from
 type_from-named from [] word ty h = absurd cc
 type_from-named from (name ∷ names) word ty h =
-    go (bytes_eq name word) ((bytes_eq-Decides name word).0) h (type_from-named (from + 1) names word ty) where
+    go (bytes_eq name word) (bytes_eq-true name word) h (type_from-named (from + 1) names word ty) where
       go : (b : Bool) → (b ≡ true → name ≡ word) → (if b then Ok from else type_from (from + 1) names word) ≡ Ok ty
           → (type_from (from + 1) names word ≡ Ok ty → IsNamed (from + 1) names word ty) → IsNamed from (name ∷ names) word ty
       go true same here behind =
@@ -187,15 +186,15 @@ kind-more types more kinds.Register n h is = is
 kind-more types more kinds.Small n h is = is
 kind-more types more kinds.CommonPlace n h is = is
 kind-more types more kinds.Number n h is = is
-kind-more types more kinds.TypeName n h is = (is.0, omega (arith, is.1))
+kind-more types more kinds.TypeName n h (some, declared) = (some, omega arith)
 
 kinds-more : (types more : ℕ) (kinds : List Kind) (numbers : List ℕ) → types ≤ more → AreOfKinds types kinds numbers
     → AreOfKinds more kinds numbers
 kinds-more types more [] [] h are = tt
 kinds-more types more [] (number ∷ numbers) h are = absurd are
 kinds-more types more (kind ∷ kinds) [] h are = absurd are
-kinds-more types more (kind ∷ kinds) (number ∷ numbers) h are =
-    (kind-more types more kind number h are.0, kinds-more types more kinds numbers h are.1)
+kinds-more types more (kind ∷ kinds) (number ∷ numbers) h (first, others) =
+    (kind-more types more kind number h first, kinds-more types more kinds numbers h others)
 
 -- of at most 255 names, the numbers are of their kinds where there are 256 types
 pub words-fit : (names : List (List ℕ)) (kinds : List Kind) (words : List (List ℕ)) (numbers : List ℕ)

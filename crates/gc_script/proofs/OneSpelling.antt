@@ -59,7 +59,8 @@ joined-empty (word ∷ words) some = refl
 pub words-joined : (line : List ℕ) → joined (words_of line) ≡ line
 words-joined [] = refl
 words-joined (byte ∷ bytes) = go (eqb byte 32) refl (words-joined bytes) where
-  go : (b : Bool) → eqb byte 32 ≡ b → joined (words_of bytes) ≡ bytes → joined (cond b ([] ∷ words_of bytes) (with_first byte (words_of bytes))) ≡ byte ∷ bytes
+  go : (b : Bool) → eqb byte 32 ≡ b → joined (words_of bytes) ≡ bytes
+      → joined (cond b ([] ∷ words_of bytes) (with_first byte (words_of bytes))) ≡ byte ∷ bytes
   go true space rest = cc (joined-empty (words_of bytes) (words_of-some bytes), eqb-true byte 32 space)
   go false space rest = joined-first byte (words_of bytes) ∙ ap (λ l. byte ∷ l) rest
 
@@ -84,7 +85,8 @@ lines-joined (byte ∷ next ∷ bytes) = go (eqb byte 10) refl (lines-joined (ne
   rest : List (List ℕ)
   rest = lines_of (next ∷ bytes)
 
-  go : (b : Bool) → eqb byte 10 ≡ b → IsEnded (ended rest) (next ∷ bytes) → IsEnded (ended (cond b ([] ∷ rest) (with_first byte rest))) (byte ∷ next ∷ bytes)
+  go : (b : Bool) → eqb byte 10 ≡ b → IsEnded (ended rest) (next ∷ bytes)
+      → IsEnded (ended (cond b ([] ∷ rest) (with_first byte rest))) (byte ∷ next ∷ bytes)
   go true newline h =
       let Ends : ℕ → Type 0 = λ first. IsEnded (10 ∷ ended rest) (first ∷ next ∷ bytes) in
       subst Ends (sym (eqb-true byte 10 newline)) (IsEnded-cons 10 (ended rest) (next ∷ bytes) h)
@@ -102,7 +104,8 @@ lines-again (byte ∷ next ∷ bytes) = go (eqb byte 10) refl (lines-again (next
   rest : List (List ℕ)
   rest = lines_of (next ∷ bytes)
 
-  go : (b : Bool) → eqb byte 10 ≡ b → lines_of (ended rest) ≡ rest → lines_of (ended (cond b ([] ∷ rest) (with_first byte rest))) ≡ cond b ([] ∷ rest) (with_first byte rest)
+  go : (b : Bool) → eqb byte 10 ≡ b → lines_of (ended rest) ≡ rest
+      → lines_of (ended (cond b ([] ∷ rest) (with_first byte rest))) ≡ cond b ([] ∷ rest) (with_first byte rest)
   go true newline h = ap (λ l. [] ∷ l) h
   go false newline h = rw (ended-first byte rest (lines_of-some next bytes), newline) (ap (with_first byte) h)
 
@@ -175,7 +178,8 @@ with_type-declared preamble name shape next h =
     cc (guarded.gives)
 
 -- a type line that is read is spelled in one way
-pub type_line-written : (preamble : Preamble) (words : List (List ℕ)) (next : Preamble) → type_line preamble words ≡ Ok next → is_type_line words ≡ true → IsTypeLine preamble words next
+pub type_line-written : (preamble : Preamble) (words : List (List ℕ)) (next : Preamble) → type_line preamble words ≡ Ok next
+    → is_type_line words ≡ true → IsTypeLine preamble words next
 unfolding type_line
 type_line-written preamble [] next h typed = absurd cc
 type_line-written preamble (keyword ∷ []) next h typed = absurd cc
@@ -207,7 +211,8 @@ pub record IsSpelled (preamble : Preamble) (lines : List (List ℕ)) (script : S
   pub text : ended lines ≡ types_text names types ++ flat_map (call_text script.preamble.names) script.lines
 
 -- lines that are calls alone declare no type
-calls-spelled : (preamble : Preamble) (line_number : ℕ) (lines : List (List ℕ)) (script : Script) → script_with_calls preamble line_number lines ≡ Ok script → IsSpelled preamble lines script
+calls-spelled : (preamble : Preamble) (line_number : ℕ) (lines : List (List ℕ)) (script : Script)
+    → script_with_calls preamble line_number lines ≡ Ok script → IsSpelled preamble lines script
 calls-spelled preamble line_number lines script h =
     let calls = both-pass (call_lines preamble line_number lines) _ script h in
     let read = call_lines-read preamble line_number lines calls.value calls.first_gives in
@@ -225,34 +230,47 @@ calls-spelled preamble line_number lines script h =
     })
 
 -- a type line declares one more type, before the further ones
-type-spelled : (preamble next : Preamble) (line : List ℕ) (lines : List (List ℕ)) (script : Script) → IsTypeLine preamble (words_of line) next → IsSpelled next lines script → IsSpelled preamble (line ∷ lines) script
+type-spelled : (preamble next : Preamble) (line : List ℕ) (lines : List (List ℕ)) (script : Script)
+    → IsTypeLine preamble (words_of line) next → IsSpelled next lines script → IsSpelled preamble (line ∷ lines) script
 type-spelled preamble next line lines script ty rest = record {
   names = ty.name ∷ rest.names;
   types = ty.shape ∷ rest.types;
   same_mutators = rest.same_mutators ∙ ap (λ (p : Preamble). p.mutators) ty.declared;
-  names_behind = rest.names_behind ∙ ap (λ (p : Preamble). p.names ++ rest.names) ty.declared ∙ append_assoc preamble.names (ty.name ∷ []) rest.names;
-  types_behind = rest.types_behind ∙ ap (λ (p : Preamble). p.types ++ rest.types) ty.declared ∙ append_assoc preamble.types (ty.shape ∷ []) rest.types;
+  names_behind = rest.names_behind ∙ ap (λ (p : Preamble). p.names ++ rest.names) ty.declared
+      ∙ append_assoc preamble.names (ty.name ∷ []) rest.names;
+  types_behind = rest.types_behind ∙ ap (λ (p : Preamble). p.types ++ rest.types) ty.declared
+      ∙ append_assoc preamble.types (ty.shape ∷ []) rest.types;
   counted = ap suc rest.counted;
   fit = rest.fit;
-  text = ap₂ ◌++◌ (line-spelled line _ ty.spelled) rest.text ∙ sym (append_assoc (type_text ty.name ty.shape) (types_text rest.names rest.types) (flat_map (call_text script.preamble.names) script.lines));
+  text = ap₂ ◌++◌ (line-spelled line _ ty.spelled) rest.text
+      ∙ sym (append_assoc (type_text ty.name ty.shape) (types_text rest.names rest.types)
+      (flat_map (call_text script.preamble.names) script.lines));
 }
 
 -- what stands behind the line of the mutators is spelled in one way
-pub body-spelled : (preamble : Preamble) (line_number : ℕ) (lines : List (List ℕ)) (script : Script) → body preamble line_number lines ≡ Ok script → IsSpelled preamble lines script
+pub body-spelled : (preamble : Preamble) (line_number : ℕ) (lines : List (List ℕ)) (script : Script)
+    → body preamble line_number lines ≡ Ok script → IsSpelled preamble lines script
 unfolding body
 body-spelled preamble line_number [] script h = calls-spelled preamble line_number [] script h
 body-spelled preamble line_number (line ∷ lines) script h =
     go (is_type_line (words_of line)) refl h (λ next. body-spelled next (line_number + 1) lines script) where
-      go : (b : Bool) → is_type_line (words_of line) ≡ b → cond b (at_line line_number (type_line preamble (words_of line)) >>= λ next. body next (line_number + 1) lines) (script_with_calls preamble line_number (line ∷ lines)) ≡ Ok script → ((next : Preamble) → body next (line_number + 1) lines ≡ Ok script → IsSpelled next lines script) → IsSpelled preamble (line ∷ lines) script
+      go : (b : Bool) → is_type_line (words_of line) ≡ b
+          → cond b (at_line line_number (type_line preamble (words_of line))
+          >>= λ next. body next (line_number + 1) lines) (script_with_calls preamble line_number (line ∷ lines))
+          ≡ Ok script
+          → ((next : Preamble) → body next (line_number + 1) lines ≡ Ok script → IsSpelled next lines script)
+          → IsSpelled preamble (line ∷ lines) script
       go true typed read rest =
-          let first = both-pass (at_line line_number (type_line preamble (words_of line))) (λ next. body next (line_number + 1) lines) script read in
+          let first = both-pass (at_line line_number (type_line preamble (words_of line)))
+          (λ next. body next (line_number + 1) lines) script read in
           let declares = at_line-ok line_number (type_line preamble (words_of line)) first.value first.first_gives in
           let ty = type_line-written preamble (words_of line) first.value declares typed in
           type-spelled preamble first.value line lines script ty (rest first.value first.next_gives)
       go false typed read rest = calls-spelled preamble line_number (line ∷ lines) script read
 
 -- the line of the mutators is spelled in one way
-mutators_line-written : (words : List (List ℕ)) (mutators : ℕ) → mutators_line words ≡ Ok mutators → words ≡ codes "mutators" ∷ decimal mutators ∷ []
+mutators_line-written : (words : List (List ℕ)) (mutators : ℕ) → mutators_line words ≡ Ok mutators
+    → words ≡ codes "mutators" ∷ decimal mutators ∷ []
 unfolding mutators_line
 mutators_line-written [] mutators h = absurd cc
 mutators_line-written (keyword ∷ []) mutators h = absurd cc
@@ -266,7 +284,8 @@ mutators_line-written (keyword ∷ count ∷ []) mutators h =
 mutators_line-written (keyword ∷ count ∷ more ∷ words) mutators h = absurd cc
 
 -- a script is written as its first two lines, and what stands behind them
-written-parts : (mutators : ℕ) (lines : List (List ℕ)) (script : Script) → IsSpelled (first_preamble mutators) lines script → written script ≡ spelled_line (codes "moar-gc 1" ∷ []) ++ spelled_line (codes "mutators" ∷ decimal mutators ∷ []) ++ ended lines
+written-parts : (mutators : ℕ) (lines : List (List ℕ)) (script : Script) → IsSpelled (first_preamble mutators) lines script
+    → written script ≡ spelled_line (codes "moar-gc 1" ∷ []) ++ spelled_line (codes "mutators" ∷ decimal mutators ∷ []) ++ ended lines
 written-parts mutators lines script rest = ap (λ l. version ++ l) behind where
   version : List ℕ
   version = spelled_line (codes "moar-gc 1" ∷ [])
@@ -285,7 +304,9 @@ written-parts mutators lines script rest = ap (λ l. version ++ l) behind where
 
   behind : (second ++ types) ++ calls ≡ spelled_line (codes "mutators" ∷ decimal mutators ∷ []) ++ ended lines
   behind =
-      append_assoc second types calls ∙ ap₂ ◌++◌ (ap (λ n. spelled_line (codes "mutators" ∷ decimal n ∷ [])) rest.same_mutators) (ap (λ l. l ++ calls) declared ∙ sym rest.text)
+      append_assoc second types calls
+      ∙ ap₂ ◌++◌ (ap (λ n. spelled_line (codes "mutators" ∷ decimal n ∷ [])) rest.same_mutators)
+      (ap (λ l. l ++ calls) declared ∙ sym rest.text)
 
 -- what is known of a script whose lines are read
 pub record IsReadFrom (lines : List (List ℕ)) (script : Script) : Type 0 where
@@ -310,7 +331,8 @@ lines-read (version ∷ []) script h =
     absurd (cc (versioned.gives))
 lines-read (version ∷ second ∷ lines) script h =
     let versioned = if-passes (bytes_eq version (codes "moar-gc 1")) _ _ script h in
-    let mutators = both-pass (at_line 2 (mutators_line (words_of second))) (λ count. body (first_preamble count) 3 lines) script versioned.gives in
+    let mutators = both-pass (at_line 2 (mutators_line (words_of second)))
+    (λ count. body (first_preamble count) 3 lines) script versioned.gives in
     let count = at_line-ok 2 (mutators_line (words_of second)) mutators.value mutators.first_gives in
     let rest = body-spelled (first_preamble mutators.value) 3 lines script mutators.next_gives in
     let one : version ++ 10 ∷ [] ≡ spelled_line (codes "moar-gc 1" ∷ []) =
@@ -362,11 +384,12 @@ read_back-types script h = let read = lines-read (lines_of (written script)) scr
 
 -- so each line is fit, and built
 pub read_back-fit : (script : Script) → IsReadBack script → All (IsFitLine script.preamble) script.lines
-read_back-fit script h = All-weaker (IsScriptLine script.preamble) (IsFitLine script.preamble) fit script.lines (read_back-lines script h) where
-  fit : (line : Line) → IsScriptLine script.preamble line → IsFitLine script.preamble line
-  fit line read = script_line-fit script.preamble line (read_back-types script h) read
+read_back-fit script h = All-weaker (IsScriptLine script.preamble) (IsFitLine script.preamble) fit script.lines
+    (read_back-lines script h) where
+      fit : (line : Line) → IsScriptLine script.preamble line → IsFitLine script.preamble line
+      fit line read = script_line-fit script.preamble line (read_back-types script h) read
 
 pub read_back-built : (script : Script) → IsReadBack script → All (λ line. IsBuilt line.call) script.lines
 read_back-built script h =
     All-weaker (IsScriptLine script.preamble) (λ line. IsBuilt line.call)
-    (λ line read. readable-built (length script.preamble.names + 1) line.call read.1) script.lines (read_back-lines script h)
+    (λ line read. readable-built (length script.preamble.names + 1) line.call read.call) script.lines (read_back-lines script h)

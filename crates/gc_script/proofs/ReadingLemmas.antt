@@ -33,10 +33,20 @@ next-line preamble number line lines read front new whole is grown all =
     let first : with_front front (call_lines preamble (number + 1) lines >>= λ others. Ok (read ∷ others)) ≡ whole = rw is at all in
     rw grown (sym (after-next front read (call_lines preamble (number + 1) lines)) ∙ first)
 
+-- and where it is refused, nothing is read
+pub no-line : (preamble : Preamble) (number : ℕ) (line : List ℕ) (lines : List (List ℕ)) (cause : Cause) (front : List Line)
+    (whole : Result (List Line) Fault) → call_line preamble (words_of line) ≡ Err cause
+    → with_front front (call_lines preamble number (line ∷ lines)) ≡ whole
+    → whole ≡ Err (record { line = number; cause = cause })
+unfolding call_lines
+no-line preamble number line lines cause front whole is all = let first = rw is at all in sym first
+
 -- the numbers of the words that are left begin with that of the next
 pub numbers-first : (names : List (List ℕ)) (kinds : List Kind) (words : List (List ℕ)) (i : ℕ) → i < length kinds
     → length words ≡ length kinds
-    → numbers_of names (drop i kinds) (drop i words) ≡ (number_of names (slice_index_or kinds i Register) (slice_index_or words i []) >>= λ next. numbers_of names (drop (i + 1) kinds) (drop (i + 1) words) >>= λ others. Ok (next ∷ others))
+    → numbers_of names (drop i kinds) (drop i words)
+    ≡ (number_of names (slice_index_or kinds i Register) (slice_index_or words i [])
+    >>= λ next. numbers_of names (drop (i + 1) kinds) (drop (i + 1) words) >>= λ others. Ok (next ∷ others))
 unfolding numbers_of
 numbers-first names kinds words i within count =
     let inside : i < length words = omega arith in

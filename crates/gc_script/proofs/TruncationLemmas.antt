@@ -1,5 +1,5 @@
 -- A line is refused for the number of its words by its first seven.
-use Rattle.std.proofs.Common.{◌≡◌, ℕ, ◌≤◌, List, [], ◌∷◌, length, take, Result, Ok, Err, cond, eqb, refl, lit≤, arith}
+use Rattle.std.proofs.Common.{◌≡◌, ℕ, ◌≤◌, List, [], ◌∷◌, length, take, Result, Ok, Err, cond, eqb, refl, sym, ap, ◌∙◌, lit≤, arith}
 use Rattle.std.proofs.lemmas.Bool.Decides.{nat_tests}
 use Rattle.gc_model.specs.declared.call.Line.{Line}
 use Rattle.gc_script.specs.declared.calls.CallWord.{CallWord}
@@ -50,15 +50,19 @@ kinds-few Block = lit≤ tt
 kinds-few Unblock = lit≤ tt
 
 -- five words behind a call word are too many, whichever they are
-counted_word-many : (word : List ℕ) (a b c d e : List ℕ) (more : List (List ℕ)) → counted_word word (a ∷ b ∷ c ∷ d ∷ e ∷ more) ≡ (call_word word >>= λ kind. Err Word)
+counted_word-many : (word : List ℕ) (a b c d e : List ℕ) (more : List (List ℕ))
+    → counted_word word (a ∷ b ∷ c ∷ d ∷ e ∷ more) ≡ (call_word word >>= λ kind. Err Word)
 unfolding counted_word
 counted_word-many word a b c d e more = go (call_word word) where
-  go : (read : Result CallWord Cause) → (read >>= λ kind. cond (eqb (length (a ∷ b ∷ c ∷ d ∷ e ∷ more)) (length (kinds_of kind))) (Ok kind) (Err Word)) ≡ (read >>= λ kind. Err Word)
+  go : (read : Result CallWord Cause)
+      → (read >>= λ kind. cond (eqb (length (a ∷ b ∷ c ∷ d ∷ e ∷ more)) (length (kinds_of kind))) (Ok kind)
+      (Err Word)) ≡ (read >>= λ kind. Err Word)
   go (Ok kind) = let few = kinds-few kind in grind (arith, nat_tests)
   go (Err cause) = refl
 
 -- nothing is read where the call word is refused
-refused : (read : Result CallWord Cause) (f g : CallWord → Result Line Cause) → ((read >>= λ kind. Err Word) >>= f) ≡ ((read >>= λ kind. Err Word) >>= g)
+refused : (read : Result CallWord Cause) (f g : CallWord → Result Line Cause)
+    → ((read >>= λ kind. Err Word) >>= f) ≡ ((read >>= λ kind. Err Word) >>= g)
 refused (Ok kind) f g = refl
 refused (Err cause) f g = refl
 
@@ -73,5 +77,10 @@ call_line-take preamble (t ∷ word ∷ a ∷ b ∷ c ∷ []) = refl
 call_line-take preamble (t ∷ word ∷ a ∷ b ∷ c ∷ d ∷ []) = refl
 call_line-take preamble (t ∷ word ∷ a ∷ b ∷ c ∷ d ∷ e ∷ more) =
     rw (counted_word-many word a b c d e [], counted_word-many word a b c d e more) (refused (call_word word) _ _)
+
+-- what a call line is read as by its first seven words
+pub call_line-seven : (preamble : Preamble) (words seven : List (List ℕ)) (read : Result Line Cause) → seven ≡ take 7 words
+    → call_line preamble seven ≡ read → call_line preamble words ≡ read
+call_line-seven preamble words seven read cut h = sym (call_line-take preamble words) ∙ ap (call_line preamble) (sym cut) ∙ h
 
 pub ruleset truncated = (mutators_line-take, is_type_line-take, type_line-take, call_line-take)

@@ -17,7 +17,9 @@ use Rattle.gc_script.specs.Words.{number, number_below, small, is_type_name, num
 
 -- line 2: `mutators M`, with M from 1 to 8
 unfoldable pub mutators_line : List (List ℕ) → Result ℕ Cause
-mutators_line (keyword ∷ count ∷ []) = if bytes_eq keyword (codes "mutators") then (number count >>= λ mutators. if nat_lt 0 mutators && nat_le mutators 8 then Ok mutators else Err Mutator) else Err Word
+mutators_line (keyword ∷ count ∷ []) = if bytes_eq keyword (codes "mutators")
+    then (number count >>= λ mutators. if nat_lt 0 mutators && nat_le mutators 8 then Ok mutators else Err Mutator)
+    else Err Word
 mutators_line words = Err Word
 
 -- a line whose first word is `type`
@@ -32,7 +34,9 @@ is_in_use names name = bytes_eq name (codes "common") || list_any (λ declared. 
 -- what is declared with one more type, of at most 64 words, where there are fewer than 256 types
 unfoldable pub with_type : Preamble → List ℕ → Shape → Result Preamble Cause
 with_type preamble name shape =
-    if nat_le (size_of shape) 64 && nat_lt (length preamble.types) 256 then Ok (record preamble { names = preamble.names ++ name ∷ []; types = preamble.types ++ shape ∷ [] }) else Err TypeCause
+    if nat_le (size_of shape) 64 && nat_lt (length preamble.types) 256
+    then Ok (record preamble { names = preamble.names ++ name ∷ []; types = preamble.types ++ shape ∷ [] })
+    else Err TypeCause
 
 -- the numbers of slots and of number fields
 unfoldable pub shape_of : List ℕ → List ℕ → Result Shape Cause
@@ -44,7 +48,9 @@ shape_of slots numbers = do
 -- a type line: `type NAME S F`
 unfoldable pub type_line : Preamble → List (List ℕ) → Result Preamble Cause
 type_line preamble (keyword ∷ name ∷ slots ∷ numbers ∷ []) =
-    if not (is_type_name name) then Err TypeCause else (if is_in_use preamble.names name then Err Duplicate else (shape_of slots numbers >>= with_type preamble name))
+    if not (is_type_name name) then Err TypeCause
+    else (if is_in_use preamble.names name then Err Duplicate
+    else (shape_of slots numbers >>= with_type preamble name))
 type_line preamble words = Err Word
 
 -- the call word of a call line, where so many words stand behind it as it takes
@@ -79,7 +85,9 @@ script_with_calls preamble number lines =
 unfoldable pub body : Preamble → ℕ → List (List ℕ) → Result Script Fault
 body preamble number [] = script_with_calls preamble number []
 body preamble number (line ∷ lines) =
-    if is_type_line (words_of line) then (at_line number (type_line preamble (words_of line)) >>= λ next. body next (number + 1) lines) else script_with_calls preamble number (line ∷ lines)
+    if is_type_line (words_of line)
+    then (at_line number (type_line preamble (words_of line)) >>= λ next. body next (number + 1) lines)
+    else script_with_calls preamble number (line ∷ lines)
 
 -- what stands behind the version line
 unfoldable pub after_version : List (List ℕ) → Result Script Fault
@@ -89,7 +97,8 @@ after_version (line ∷ lines) = at_line 2 (mutators_line (words_of line)) >>= �
 -- the script of these lines, or its first fault
 unfoldable pub script_of_lines : List (List ℕ) → Result Script Fault
 script_of_lines [] = Err (record { line = 1; cause = Version })
-script_of_lines (version ∷ lines) = if bytes_eq version (codes "moar-gc 1") then after_version lines else Err (record { line = 1; cause = Version })
+script_of_lines (version ∷ lines) = if bytes_eq version (codes "moar-gc 1") then after_version lines
+    else Err (record { line = 1; cause = Version })
 
 -- what a text is read as: a script, or the least bad line with its first failing test
 abbrev pub script_of : List ℕ → Result Script Fault

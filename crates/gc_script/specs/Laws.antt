@@ -1,13 +1,19 @@
 -- A script has one text: it is read as the script, two scripts differ in theirs, and what is accepted is such a text
 -- but for its last newline.
-use Rattle.std.specs.Prelude.{◌≡◌, ◌⊎◌, ℕ, List, [], ◌∷◌, ◌++◌}
+use Rattle.std.specs.Prelude.{◌≡◌, ◌≤◌, ◌⊎◌, ℕ, List, [], ◌∷◌, ◌++◌, length}
 use Rattle.gc_script.specs.Grammar.{IsScript}
 use Rattle.gc_script.specs.Script.{Script}
+use Rattle.gc_script.specs.Text.{most_bytes}
 use Rattle.gc_script.specs.Written.{written}
 
 -- what a script is written as is read as it
 unfoldable pub IsReadBack : Script → Type 0
 IsReadBack script = IsScript (written script) script
+
+-- what holds of each Script: it has no more lines than a script has bytes, and what it is written as is read as it
+pub record IsWritable (script : Script) : Type 0 where
+  pub few : length script.lines ≤ most_bytes
+  pub read_back : IsReadBack script
 
 -- a text is another one, or has one more newline
 abbrev pub IsEnded : List ℕ → List ℕ → Type 0

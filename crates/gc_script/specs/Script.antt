@@ -27,8 +27,9 @@ IsFitLine preamble line = IsFit preamble.types preamble.mutators line.mutator li
 
 -- a line that a call line can be read as: its mutator is there, and its call is one that call lines make of the
 -- types that are declared
-abbrev pub IsScriptLine : Preamble → Line → Type 0
-IsScriptLine preamble line = (line.mutator < preamble.mutators) × IsReadable (length preamble.names + 1) line.call
+pub record IsScriptLine (preamble : Preamble) (line : Line) : Type 0 where
+  pub mutator : line.mutator < preamble.mutators
+  pub call : IsReadable (length preamble.names + 1) line.call
 
 -- the number in the text, from 1, of a call line counted from 0: the version line, the line of the mutators
 -- and the type lines stand before the call lines

@@ -20,9 +20,9 @@ pub(crate) struct Preamble {
 
 impl Model for Preamble {
     ghost use Rattle.std.specs.Prelude.{◌≡◌, ◌+◌, ◌≤◌, length};
-    ghost use Rattle.gc_script.specs.Script.{Preamble as Declared};
+    ghost use Rattle.gc_script.specs.Script.{Preamble};
 
-    ghost Value = { Declared };
+    ghost Value = { Preamble };
 
     ghost view = { λ p. record { mutators = p.mutators; names = p.names; types = p.types } };
 

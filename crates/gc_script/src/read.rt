@@ -2,11 +2,10 @@
 //! Each loop reads one line and goes on behind it. What it keeps true is that the lines behind, read with what was
 //! read so far, give what the whole text gives; so the first line that fails a test is the first fault.
 
-ghost use Rattle.std.specs.Prelude.{◌≡◌, ℕ, ◌+◌, ◌^◌, ◌<◌, ◌≤◌, ◌↔◌, ◌⊎◌, [], ◌∷◌, ◌++◌, length, map, Ok, Err, IfOk, IsErrOf, MatchResult};
-ghost use Rattle.gc_model.specs.declared.call.Line.{Line};
+ghost use Rattle.std.specs.Prelude.{◌≡◌, ℕ, ◌+◌, ◌^◌, ◌<◌, ◌≤◌, ◌↔◌, ◌⊎◌, length, map, Err, IfOk, IsErrOf, MatchResult};
 ghost use Rattle.gc_script.specs.Fault.{Reads, Fails, at_line, located};
 ghost use Rattle.gc_script.specs.declared.fault.ReadError.TheVariants.{Refused};
-ghost use Rattle.gc_script.specs.Grammar.{IsScript, IsFirstFault, mutators_line, is_type_line, type_line, call_line, call_lines, body, after_version, script_of, script_with_calls};
+ghost use Rattle.gc_script.specs.Grammar.{IsScript, IsFirstFault, mutators_line, is_type_line, type_line, call_lines, body, after_version, script_of, script_with_calls};
 ghost use Rattle.gc_script.specs.Script.{Script};
 ghost use Rattle.gc_script.specs.Text.{most_bytes, lines_of};
 
@@ -203,31 +202,14 @@ fn call_lines(
     let mut number = first;
     let mut rest = bytes;
     while let Some((words, behind)) = cut_line(rest) {
-        push_line(&mut lines, preamble, number, words.as_slice())?;
+        match call_line(preamble, words.as_slice()) {
+            Ok(line) => lines.push(line)?,
+            Err(cause) => return Err(refused(number, cause)),
+        }
         number += 1;
         rest = behind;
     }
     Ok(lines)
-}
-
-/// Reads a call line, which has this number, behind the lines so far.
-fn push_line(
-    lines: &mut Lines,
-    preamble: &Preamble,
-    number: u32,
-    words: &[&[u8]],
-) -> Result<(), ReadError<Fault>>
-    ensures { MatchResult result
-        (λ _. (read : Line) × (call_line preamble.now (map (λ word. word.now) words.now) ≡ Ok read) × (lines.new ≡ lines.old ++ read ∷ []))
-        (λ error. Fails error (at_line number (call_line preamble.now (map (λ word. word.now) words.now)))) }
-{
-    match call_line(preamble, words) {
-        Ok(line) => {
-            lines.push(line)?;
-            Ok(())
-        }
-        Err(cause) => Err(refused(number, cause)),
-    }
 }
 
 /// A failed test, at its line.

@@ -22,16 +22,14 @@ pub struct Script {
 }
 
 impl Model for Script {
-    ghost use Rattle.std.specs.Prelude.{◌≤◌, length};
-    ghost use Rattle.gc_script.specs.Laws.{IsReadBack};
+    ghost use Rattle.gc_script.specs.Laws.{IsWritable};
     ghost use Rattle.gc_script.specs.Script.{Script};
-    ghost use Rattle.gc_script.specs.Text.{most_bytes};
 
     ghost Value = { Script };
 
     ghost view = { λ s. record { preamble = s.preamble; lines = s.lines } };
 
-    ghost invariant = { λ s. (length s.lines ≤ most_bytes) × IsReadBack (record { preamble = s.preamble; lines = s.lines }) };
+    ghost invariant = { λ s. IsWritable (record { preamble = s.preamble; lines = s.lines }) };
 }
 
 impl Script {

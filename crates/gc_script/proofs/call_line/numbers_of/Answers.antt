@@ -13,9 +13,11 @@ returns-in-Err c =
     let index = c.loop-index.index in
     let count : length (map now words) ≡ length kinds = length-map words now ∙ c.requires.count in
     let word = get_or-map now words index _ [] (omega (arith, c.requires.count)) in
-    let is : number_of c.args.names.now (slice_index_or kinds index Register) (slice_index_or (map now words) index []) ≡ Err c.in-Err.cause =
+    let is : number_of c.args.names.now (slice_index_or kinds index Register)
+    (slice_index_or (map now words) index []) ≡ Err c.in-Err.cause =
     rw word (sym c.in-Err.ensures) in
-    no-number c.args.names.now kinds (map now words) index c.in-Err.cause c.loop-index.numbers.items _ c.loop-index-test.true count is c.loop-index.invariant.numbers
+    no-number c.args.names.now kinds (map now words) index c.in-Err.cause c.loop-index.numbers.items _
+    c.loop-index-test.true count is c.loop-index.invariant.numbers
 
 pub loop-index-preserved : goal.loop-index-preserved
 loop-index-preserved c =
@@ -25,10 +27,13 @@ loop-index-preserved c =
     let index = c.loop-index.index in
     let count : length (map now words) ≡ length kinds = length-map words now ∙ c.requires.count in
     let word = get_or-map now words index _ [] (omega (arith, c.requires.count)) in
-    let is : number_of c.args.names.now (slice_index_or kinds index Register) (slice_index_or (map now words) index []) ≡ Ok c.in-Ok.number =
+    let is : number_of c.args.names.now (slice_index_or kinds index Register)
+    (slice_index_or (map now words) index []) ≡ Ok c.in-Ok.number =
     rw word (sym c.in-Ok.ensures) in
     record {
-      numbers = rw c.push.ensures.items (next-number c.args.names.now kinds (map now words) index c.in-Ok.number c.loop-index.numbers.items _ c.loop-index-test.true count is c.loop-index.invariant.numbers);
+      numbers = rw c.push.ensures.items
+          (next-number c.args.names.now kinds (map now words) index c.in-Ok.number c.loop-index.numbers.items _
+          c.loop-index-test.true count is c.loop-index.invariant.numbers);
       count = c.push.ensures.len ∙ ap (λ n. n + 1) c.loop-index.invariant.count;
     }
 
@@ -39,5 +44,6 @@ returns c =
     let words = c.args.words.now in
     let index = c.loop-index.index in
     let past : length (map now words) ≤ index = omega (arith, length-map words now, c.requires.count, c.loop-index-test.false) in
-    let whole = rw (drop_all index c.args.kinds.now c.loop-index-test.false, drop_all index (map now words) past) at c.loop-index.invariant.numbers in
+    let whole = rw (drop_all index c.args.kinds.now c.loop-index-test.false, drop_all index (map now words) past)
+    at c.loop-index.invariant.numbers in
     sym whole ∙ ap Ok (append-nil c.loop-index.numbers.items)

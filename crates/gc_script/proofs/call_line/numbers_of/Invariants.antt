@@ -6,6 +6,8 @@ use Rattle.gc_script.proofs.call_line.numbers_of.Given as goal
 -- the numbers so far and those of the words that are left are all numbers
 abbrev pub invariant-loop-index : goal.invariant-loop-index
 invariant-loop-index l = record {
-  numbers : with_front l.numbers.items (numbers_of l.names (drop l.index l.kinds) (drop l.index (map (λ word. word.now) l.words))) ≡ numbers_of l.names l.kinds (map (λ word. word.now) l.words);
+  numbers : with_front l.numbers.items
+      (numbers_of l.names (drop l.index l.kinds) (drop l.index (map (λ word. word.now) l.words)))
+      ≡ numbers_of l.names l.kinds (map (λ word. word.now) l.words);
   count : length l.numbers.items ≡ l.index;
 }

@@ -8,6 +8,8 @@ loop-cut-preserved c =
     let now = λ (word : Bor (List ℕ)). word.now in
     let so_far = c.loop-cut.invariant in
     record {
-      words = append-more (map now c.loop-cut.words.items) (map now c.append_word.new.words.items) c.loop-cut.cut.word.now (words_of (first_line c.loop-cut.cut.behind.now)) _ _ c.append_word.ensures c.cut_word-cut-in-loop-cut.ensures.words (rw c.loop-cut-test.true at so_far.words);
+      words = append-more (map now c.loop-cut.words.items) (map now c.append_word.new.words.items)
+          c.loop-cut.cut.word.now (words_of (first_line c.loop-cut.cut.behind.now)) _ _ c.append_word.ensures
+          c.cut_word-cut-in-loop-cut.ensures.words (rw c.loop-cut-test.true at so_far.words);
       after = c.cut_word-cut-in-loop-cut.ensures.after ∙ (rw c.loop-cut-test.true at so_far.after);
     }

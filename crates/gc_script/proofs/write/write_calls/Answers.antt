@@ -7,13 +7,15 @@ use Rattle.gc_script.proofs.write.write_calls.Goals as goal
 pub returns-in-Failed-clause-part : goal.returns-in-Failed-clause-part
 returns-in-Failed-clause-part g c = λ _.
     let so_far = c.loop-index.invariant in
-    let next = rw (flat_map-next (call_text c.args.s.now.preamble.names) c.args.s.now.lines c.loop-index.index c.as_slice.result.now (omega arith) (rw c.as_slice.ensures.value c.call_line-line.ensures)) at so_far.left in
+    let next = rw (flat_map-next (call_text c.args.s.now.preamble.names) c.args.s.now.lines c.loop-index.index
+    c.as_slice.result.now (omega arith) (rw c.as_slice.ensures.value c.call_line-line.ensures)) at so_far.left in
     AppendsPrefix-behind _ _ _ so_far.text _ _ _ so_far.got (c.put.ensures.first_bytes c.in-Failed.is) next
 
 pub loop-index-preserved : goal.loop-index-preserved
 loop-index-preserved g c =
     let so_far = c.loop-index.invariant in
-    let next = rw (flat_map-next (call_text c.args.s.now.preamble.names) c.args.s.now.lines c.loop-index.index c.as_slice.result.now (omega arith) (rw c.as_slice.ensures.value c.call_line-line.ensures)) at so_far.left in
+    let next = rw (flat_map-next (call_text c.args.s.now.preamble.names) c.args.s.now.lines c.loop-index.index
+    c.as_slice.result.now (omega arith) (rw c.as_slice.ensures.value c.call_line-line.ensures)) at so_far.left in
     record {
       text = _;
       got = Appends-append _ _ _ so_far.text _ so_far.got (c.put.ensures.all c.in-All.is);

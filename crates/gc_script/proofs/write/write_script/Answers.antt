@@ -13,7 +13,8 @@ pub returns-in-All-clause-part : goal.returns-in-All-clause-part
 returns-in-All-clause-part g c = λ is.
     let s = c.args.s.now in
     let front = rw c.preamble.ensures.preamble at (c.write_preamble.ensures.all c.in-All.is) in
-    AppendsPrefix-last _ _ _ (preamble_text s.preamble) (flat_map (call_text s.preamble.names) s.lines) front (c.write_calls.ensures.part is)
+    AppendsPrefix-last _ _ _ (preamble_text s.preamble) (flat_map (call_text s.preamble.names) s.lines) front
+    (c.write_calls.ensures.part is)
 
 pub returns-in-Failed-clause-part : goal.returns-in-Failed-clause-part
 returns-in-Failed-clause-part g c = λ _.

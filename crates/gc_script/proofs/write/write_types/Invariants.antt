@@ -8,6 +8,7 @@ abbrev pub invariant-loop-index : goal.invariant-loop-index
 invariant-loop-index g l = record {
   text : List ℕ;
   got : Appends (g.K.Sink.written l.fn.out) (g.K.Sink.written l.out) text;
-  left : text ++ types_text (drop l.index l.preamble.names) (drop (l.index + 1) l.preamble.types) ≡ types_text l.preamble.names (declared_shapes l.preamble.types);
+  left : text ++ types_text (drop l.index l.preamble.names) (drop (l.index + 1) l.preamble.types)
+      ≡ types_text l.preamble.names (declared_shapes l.preamble.types);
   faults : g.K.Sink.faults l.fn.out ≤ g.K.Sink.faults l.out;
 }
