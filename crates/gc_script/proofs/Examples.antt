@@ -38,6 +38,7 @@ unfolding register number_below numeral
 registers = (refl, refl, refl)
 
 -- where there is no first line, and where there is no second
-lines_left_out : (first_fault [] ≡ Some (record { line = 1; cause = Version })) × (first_fault (codes "moar-gc 1\n") ≡ Some (record { line = 2; cause = Word }))
+lines_left_out : (first_fault [] ≡ Some (record { line = 1; cause = Version }))
+    × (first_fault (codes "moar-gc 1\n") ≡ Some (record { line = 2; cause = Word }))
 unfolding script_of_lines after_version
 lines_left_out = (refl, refl)

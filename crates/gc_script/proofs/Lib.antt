@@ -1,7 +1,10 @@
+pub mod ListLemmas
 pub mod TextLemmas
 pub mod NumberLemmas
 pub mod NameLemmas
-pub mod Canonical
+pub mod Passed
+pub mod KindLemmas
+pub mod CallLemmas
 pub mod TruncationLemmas
 pub mod ReadingLemmas
 pub mod OneSpelling

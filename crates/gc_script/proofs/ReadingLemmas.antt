@@ -1,23 +1,71 @@
--- Reading line by line.
-use Rattle.std.proofs.Common.{◌≡◌, ℕ, ◌+◌, List, [], ◌∷◌, ◌++◌, Result, Ok, Err, refl, sym, ap, ◌∙◌, append_assoc}
+-- Reading one thing after another.
+use Rattle.std.proofs.Common.{◌≡◌, ℕ, suc, ◌+◌, ◌<◌, List, [], ◌∷◌, ◌++◌, length, drop, slice_index_or, Result, Ok, Err, refl, sym, ap, ◌∙◌, append_assoc, arith}
+use Rattle.std.proofs.Math.Seq.{drop-cons}
+use Rattle.std.proofs.Math.Numerals.{add-one}
 use Rattle.gc_model.specs.declared.call.Line.{Line}
+use Rattle.gc_script.specs.declared.calls.Kind.{Kind}
+use Rattle.gc_script.specs.declared.calls.Kind.TheVariants.{Register}
+use Rattle.gc_script.specs.declared.fault.Cause.{Cause}
 use Rattle.gc_script.specs.declared.fault.Fault.{Fault}
 use Rattle.gc_script.specs.Fault.{◌>>=◌}
 use Rattle.gc_script.specs.Grammar.{call_line, call_lines}
 use Rattle.gc_script.specs.Script.{Preamble}
 use Rattle.gc_script.specs.Text.{words_of}
+use Rattle.gc_script.specs.Words.{number_of, numbers_of}
 
--- the lines that were read before, and then these
-abbrev pub with_front : List Line → Result (List Line) Fault → Result (List Line) Fault
-with_front front read = read >>= λ lines. Ok (front ++ lines)
+-- what was read before, and then what these give
+abbrev pub with_front : {A E : Type 0} → List A → Result (List A) E → Result (List A) E
+with_front front read = read >>= λ rest. Ok (front ++ rest)
 
--- a call line that is read goes behind those before it, and the lines that are left stay
-after-line : (front : List Line) (read : Line) (rest : Result (List Line) Fault) → with_front front (rest >>= λ lines. Ok (read ∷ lines)) ≡ with_front (front ++ read ∷ []) rest
-after-line front read (Ok lines) = ap Ok (sym (append_assoc front (read ∷ []) lines))
-after-line front read (Err fault) = refl
+-- what is read next goes behind what was read before, and what is left stays
+after-next : {A E : Type 0} (front : List A) (next : A) (rest : Result (List A) E)
+    → with_front front (rest >>= λ others. Ok (next ∷ others)) ≡ with_front (front ++ next ∷ []) rest
+after-next front next (Ok others) = ap Ok (sym (append_assoc front (next ∷ []) others))
+after-next front next (Err error) = refl
 
-pub next-line : (preamble : Preamble) (number : ℕ) (line : List ℕ) (lines : List (List ℕ)) (read : Line) (front new : List Line) (whole : Result (List Line) Fault) → call_line preamble (words_of line) ≡ Ok read → new ≡ front ++ read ∷ [] → with_front front (call_lines preamble number (line ∷ lines)) ≡ whole → with_front new (call_lines preamble (number + 1) lines) ≡ whole
+-- a call line that is read goes behind those before it
+pub next-line : (preamble : Preamble) (number : ℕ) (line : List ℕ) (lines : List (List ℕ)) (read : Line)
+    (front new : List Line) (whole : Result (List Line) Fault) → call_line preamble (words_of line) ≡ Ok read
+    → new ≡ front ++ read ∷ [] → with_front front (call_lines preamble number (line ∷ lines)) ≡ whole
+    → with_front new (call_lines preamble (number + 1) lines) ≡ whole
 unfolding call_lines
 next-line preamble number line lines read front new whole is grown all =
     let first : with_front front (call_lines preamble (number + 1) lines >>= λ others. Ok (read ∷ others)) ≡ whole = rw is at all in
-    rw grown (sym (after-line front read (call_lines preamble (number + 1) lines)) ∙ first)
+    rw grown (sym (after-next front read (call_lines preamble (number + 1) lines)) ∙ first)
+
+-- and where it is refused, nothing is read
+pub no-line : (preamble : Preamble) (number : ℕ) (line : List ℕ) (lines : List (List ℕ)) (cause : Cause) (front : List Line)
+    (whole : Result (List Line) Fault) → call_line preamble (words_of line) ≡ Err cause
+    → with_front front (call_lines preamble number (line ∷ lines)) ≡ whole
+    → whole ≡ Err (record { line = number; cause = cause })
+unfolding call_lines
+no-line preamble number line lines cause front whole is all = let first = rw is at all in sym first
+
+-- the numbers of the words that are left begin with that of the next
+pub numbers-first : (names : List (List ℕ)) (kinds : List Kind) (words : List (List ℕ)) (i : ℕ) → i < length kinds
+    → length words ≡ length kinds
+    → numbers_of names (drop i kinds) (drop i words)
+    ≡ (number_of names (slice_index_or kinds i Register) (slice_index_or words i [])
+    >>= λ next. numbers_of names (drop (i + 1) kinds) (drop (i + 1) words) >>= λ others. Ok (next ∷ others))
+unfolding numbers_of
+numbers-first names kinds words i within count =
+    let inside : i < length words = omega arith in
+    rw (drop-cons kinds i Register, drop-cons words i [], add-one i) refl
+
+-- the number of the next word goes behind those before it
+pub next-number : (names : List (List ℕ)) (kinds : List Kind) (words : List (List ℕ)) (i n : ℕ) (front : List ℕ)
+    (whole : Result (List ℕ) Cause) → i < length kinds → length words ≡ length kinds
+    → number_of names (slice_index_or kinds i Register) (slice_index_or words i []) ≡ Ok n
+    → with_front front (numbers_of names (drop i kinds) (drop i words)) ≡ whole
+    → with_front (front ++ n ∷ []) (numbers_of names (drop (i + 1) kinds) (drop (i + 1) words)) ≡ whole
+next-number names kinds words i n front whole within count is all =
+    let first = rw (numbers-first names kinds words i within count, is) at all in
+    sym (after-next front n (numbers_of names (drop (i + 1) kinds) (drop (i + 1) words))) ∙ first
+
+-- and where it gives none, nothing does
+pub no-number : (names : List (List ℕ)) (kinds : List Kind) (words : List (List ℕ)) (i : ℕ) (cause : Cause) (front : List ℕ)
+    (whole : Result (List ℕ) Cause) → i < length kinds → length words ≡ length kinds
+    → number_of names (slice_index_or kinds i Register) (slice_index_or words i []) ≡ Err cause
+    → with_front front (numbers_of names (drop i kinds) (drop i words)) ≡ whole → whole ≡ Err cause
+no-number names kinds words i cause front whole within count is all =
+    let first = rw (numbers-first names kinds words i within count, is) at all in sym first

@@ -1,6 +1,5 @@
 -- The text of the lines that are left to write.
 use Rattle.std.proofs.Common.{◌≡◌, ℕ, zero, suc, ◌+◌, ◌<◌, List, [], ◌∷◌, ◌++◌, length, drop, refl, arith, IfSome, slice_get, slice_index_or}
-use Rattle.std.specs.List.{flat_map}
 use Rattle.std.proofs.Math.Seq.{drop-cons}
 use Rattle.std.proofs.Math.Numerals.{add-one}
 use Rattle.gc_layout.specs.declared.shape.Shape.{Shape}
@@ -8,15 +7,9 @@ use Rattle.gc_layout.specs.Shape.{common_shape}
 use Rattle.gc_script.specs.Written.{type_text, types_text}
 
 -- the type lines that are left begin with the next
-pub types_text-next : (names : List (List ℕ)) (shapes : List Shape) (i : ℕ) (piece : List ℕ) → i < length names → length names + 1 ≡ length shapes → piece ≡ type_text (slice_index_or names i []) (slice_index_or shapes (i + 1) common_shape) → types_text (drop i names) (drop (i + 1) shapes) ≡ piece ++ types_text (drop (i + 1) names) (drop (i + 1 + 1) shapes)
+pub types_text-next : (names : List (List ℕ)) (shapes : List Shape) (i : ℕ) (piece : List ℕ) → i < length names
+    → length names + 1 ≡ length shapes → piece ≡ type_text (slice_index_or names i []) (slice_index_or shapes (i + 1) common_shape)
+    → types_text (drop i names) (drop (i + 1) shapes) ≡ piece ++ types_text (drop (i + 1) names) (drop (i + 1 + 1) shapes)
 types_text-next names shapes i piece h e is =
     let within : i + 1 < length shapes = omega arith in
     rw (drop-cons names i [], drop-cons shapes (i + 1) common_shape, is, add-one (i + 1), add-one i) refl
-
--- the pieces that are left begin with the next
-pub flat_map-next : {X : Type 0} (f : X → List ℕ) (xs : List X) (i : ℕ) (piece : List ℕ) → i < length xs → IfSome (slice_get xs i) (λ x. piece ≡ f x) → flat_map f (drop i xs) ≡ piece ++ flat_map f (drop (i + 1) xs)
-flat_map-next f [] i piece h is = absurd (omega arith)
-flat_map-next f (x ∷ xs) zero piece h is = rw is refl
-flat_map-next f (x ∷ xs) (suc i) piece h is =
-    let e : suc i + 1 ≡ suc (i + 1) = omega arith in
-    rw e (flat_map-next f xs i piece (omega arith) is)

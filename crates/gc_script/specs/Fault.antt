@@ -33,9 +33,9 @@ Fails errors.Memory read = Unit {0}
 Fails (errors.Refused fault) read = read ≡ Err fault
 
 -- what a function returned, seen by view, is what reading gives, unless memory ran out
-abbrev pub Gives : {X Y E : Type 0} → (X → Y) → Result X (ReadError E) → Result Y E → Type 0
-Gives view (Ok x) read = read ≡ Ok (view x)
-Gives view (Err error) read = Fails error read
+abbrev pub Reads : {X Y E : Type 0} → (X → Y) → Result X (ReadError E) → Result Y E → Type 0
+Reads view (Ok x) read = read ≡ Ok (view x)
+Reads view (Err error) read = Fails error read
 
 -- a failed test, at its line
 abbrev pub located : ℕ → ReadError Cause → ReadError Fault

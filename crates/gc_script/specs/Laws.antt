@@ -1,17 +1,28 @@
--- A script has one text: two scripts differ in theirs, and a text is a script's but for its last newline.
-use Rattle.std.specs.Prelude.{◌≡◌, ◌⊎◌, ℕ, List, [], ◌∷◌, ◌++◌}
+-- A script has one text: it is read as the script, two scripts differ in theirs, and what is accepted is such a text
+-- but for its last newline.
+use Rattle.std.specs.Prelude.{◌≡◌, ◌≤◌, ◌⊎◌, ℕ, List, [], ◌∷◌, ◌++◌, length}
 use Rattle.gc_script.specs.Grammar.{IsScript}
 use Rattle.gc_script.specs.Script.{Script}
+use Rattle.gc_script.specs.Text.{most_bytes}
 use Rattle.gc_script.specs.Written.{written}
 
--- two scripts that are read from texts, and are written as one text, are one script
-abbrev pub TextsOfTwoScriptsDiffer : Type 0
-TextsOfTwoScriptsDiffer = (bytes other : List ℕ) (script another : Script) → IsScript bytes script → IsScript other another → written script ≡ written another → script ≡ another
+-- what a script is written as is read as it
+unfoldable pub IsReadBack : Script → Type 0
+IsReadBack script = IsScript (written script) script
 
--- what a script that is read from a text is written as, however long, is read as that script
-abbrev pub AWrittenTextGivesItsScript : Type 0
-AWrittenTextGivesItsScript = (bytes : List ℕ) (script : Script) → IsScript bytes script → IsScript (written script) script
+-- what holds of each Script: it has no more lines than a script has bytes, and what it is written as is read as it
+pub record IsWritable (script : Script) : Type 0 where
+  pub few : length script.lines ≤ most_bytes
+  pub read_back : IsReadBack script
+
+-- a text is another one, or has one more newline
+abbrev pub IsEnded : List ℕ → List ℕ → Type 0
+IsEnded text bytes = (text ≡ bytes) ⊎ (text ≡ bytes ++ 10 ∷ [])
+
+-- a script that some text is read as is read back from what it is written as, however long
+abbrev pub ScriptsAreReadBack : Type 0
+ScriptsAreReadBack = (bytes : List ℕ) (script : Script) → IsScript bytes script → IsReadBack script
 
 -- the script of a text is written as that text, or as that text and a last newline
 abbrev pub AcceptedBytesAreWrittenBack : Type 0
-AcceptedBytesAreWrittenBack = (bytes : List ℕ) (script : Script) → IsScript bytes script → (written script ≡ bytes) ⊎ (written script ≡ bytes ++ 10 ∷ [])
+AcceptedBytesAreWrittenBack = (bytes : List ℕ) (script : Script) → IsScript bytes script → IsEnded (written script) bytes

@@ -1,11 +1,10 @@
 -- What a script says.
-use Rattle.std.specs.Prelude.{ℕ, ◌+◌, List, [], ◌∷◌, length}
+use Rattle.std.specs.Prelude.{ℕ, ◌+◌, ◌<◌, List, [], ◌∷◌, length}
 use Rattle.gc_layout.specs.declared.shape.Shape.{Shape}
 use Rattle.gc_layout.specs.Shape.{common_shape}
-use Rattle.gc_model.specs.Answer.{IsFit, Suits}
-use Rattle.gc_model.specs.Interim.{IsBuilt}
-use Rattle.gc_model.specs.declared.call.Call.{Call}
+use Rattle.gc_model.specs.Answer.{IsFit}
 use Rattle.gc_model.specs.declared.call.Line.{Line}
+use Rattle.gc_script.specs.Calls.{IsReadable}
 
 -- what stands before the call lines: the number of mutators, the names of the types from type 1 on, and the
 -- shapes of the types, of which type 0 is the common object's
@@ -26,13 +25,11 @@ pub record Script : Type 0 where
 abbrev pub IsFitLine : Preamble → Line → Type 0
 IsFitLine preamble line = IsFit preamble.types preamble.mutators line.mutator line.call
 
--- a call that a call line can give, where there are so many types: it suits them, and it is built
-abbrev pub IsReadable : ℕ → Call → Type 0
-IsReadable types call = Suits types call × IsBuilt call
-
--- a line of a script: it is fit, and its call is built
-abbrev pub IsScriptLine : Preamble → Line → Type 0
-IsScriptLine preamble line = IsFitLine preamble line × IsBuilt line.call
+-- a line that a call line can be read as: its mutator is there, and its call is one that call lines make of the
+-- types that are declared
+pub record IsScriptLine (preamble : Preamble) (line : Line) : Type 0 where
+  pub mutator : line.mutator < preamble.mutators
+  pub call : IsReadable (length preamble.names + 1) line.call
 
 -- the number in the text, from 1, of a call line counted from 0: the version line, the line of the mutators
 -- and the type lines stand before the call lines

@@ -1,9 +1,12 @@
 -- The one spelling of a script: each line of words with its newline.
-use Rattle.std.specs.Prelude.{ℕ, suc, zero, List, [], ◌∷◌, ◌++◌, flat_map, slice_index_or, codes, decimal}
+use Rattle.std.specs.Prelude.{ℕ, suc, zero, List, [], ◌∷◌, ◌++◌, flat_map, slice_index_or, Option, None, Some, codes, decimal}
 use Rattle.gc_layout.specs.declared.shape.Shape.{Shape}
 use Rattle.gc_model.specs.declared.call.Call.{Call}
-use Rattle.gc_model.specs.declared.call.Call.TheVariants.{New, Get, Put, Ask, Set, SwapIf, Same, CopyReg, ClearReg, Share, Take, Await, Safepoint, Block, Unblock, Collect, End}
 use Rattle.gc_model.specs.declared.call.Line.{Line}
+use Rattle.gc_script.specs.declared.calls.CallWord.{CallWord}
+use Rattle.gc_script.specs.declared.calls.Kind.{Kind}
+use Rattle.gc_script.specs.declared.calls.Kind.TheVariants.{Register, Small, CommonPlace, Number, TypeName}
+use Rattle.gc_script.specs.Calls.{kinds_of, parts_of, spelled_word}
 use Rattle.gc_script.specs.Script.{Preamble, Script}
 
 -- words behind one another, with a space between two
@@ -30,26 +33,28 @@ abbrev pub name_of : List (List ℕ) → ℕ → List ℕ
 name_of names zero = []
 name_of names (suc ty) = slice_index_or names ty []
 
--- the words of a call: its call word, and what stands behind it. End is no call of a script
+-- the word of a kind that gives a number
+abbrev pub word_of : List (List ℕ) → Kind → ℕ → List ℕ
+word_of names Register number = register_word number
+word_of names Small number = decimal number
+word_of names CommonPlace number = decimal number
+word_of names Number number = decimal number
+word_of names TypeName number = name_of names number
+
+-- the words of these kinds that give these numbers, one by one
+abbrev pub words_of_kinds : List (List ℕ) → List Kind → List ℕ → List (List ℕ)
+words_of_kinds names [] numbers = []
+words_of_kinds names (kind ∷ kinds) [] = []
+words_of_kinds names (kind ∷ kinds) (number ∷ numbers) = word_of names kind number ∷ words_of_kinds names kinds numbers
+
+-- a call word, and the words behind it
+abbrev pub words_of_parts : List (List ℕ) → Option (CallWord × List ℕ) → List (List ℕ)
+words_of_parts names None = []
+words_of_parts names (Some parts) = spelled_word parts.0 ∷ words_of_kinds names (kinds_of parts.0) parts.1
+
+-- the words of a call. Collect and End, which no line of a script makes, have none
 abbrev pub call_words : List (List ℕ) → Call → List (List ℕ)
-call_words names (New into ty) = codes "new" ∷ register_word into ∷ name_of names ty.0 ∷ []
-call_words names (Get into base place) = codes "get" ∷ register_word into ∷ register_word base ∷ decimal place ∷ []
-call_words names (Put base place value) = codes "put" ∷ register_word base ∷ decimal place ∷ register_word value ∷ []
-call_words names (Ask base place) = codes "ask" ∷ register_word base ∷ decimal place ∷ []
-call_words names (Set base place number) = codes "set" ∷ register_word base ∷ decimal place ∷ decimal number ∷ []
-call_words names (SwapIf base place expected replacement) =
-    codes "swap" ∷ register_word base ∷ decimal place ∷ decimal expected ∷ decimal replacement ∷ []
-call_words names (Same left right) = codes "same" ∷ register_word left ∷ register_word right ∷ []
-call_words names (CopyReg into source) = codes "copy" ∷ register_word into ∷ register_word source ∷ []
-call_words names (ClearReg reg) = codes "clear" ∷ register_word reg ∷ []
-call_words names (Share place value) = codes "share" ∷ decimal place ∷ register_word value ∷ []
-call_words names (Take into place) = codes "take" ∷ register_word into ∷ decimal place ∷ []
-call_words names (Await into place) = codes "await" ∷ register_word into ∷ decimal place ∷ []
-call_words names Safepoint = codes "safepoint" ∷ []
-call_words names Block = codes "block" ∷ []
-call_words names Unblock = codes "unblock" ∷ []
-call_words names Collect = codes "collect" ∷ []
-call_words names End = []
+call_words names call = words_of_parts names (parts_of call)
 
 -- a call line: the mutator, and the words of its call
 abbrev pub call_text : List (List ℕ) → Line → List ℕ
@@ -76,8 +81,7 @@ head_text mutators = spelled_line (codes "moar-gc 1" ∷ []) ++ spelled_line (co
 
 -- what stands before the call lines: the version line, the line of the mutators, and the type lines
 abbrev pub preamble_text : Preamble → List ℕ
-preamble_text preamble =
-    spelled_line (codes "moar-gc 1" ∷ []) ++ spelled_line (codes "mutators" ∷ decimal preamble.mutators ∷ []) ++ types_text preamble.names (declared_shapes preamble.types)
+preamble_text preamble = head_text preamble.mutators ++ types_text preamble.names (declared_shapes preamble.types)
 
 -- the text of a script
 abbrev pub written : Script → List ℕ

@@ -71,15 +71,15 @@ fn cut_words(text: &[u8]) -> (Words<'_>, &[u8])
     let mut words = ArrayVec::new();
     let mut cut = cut_word(text);
     while cut.goes_on {
-        keep(&mut words, cut.word);
+        append_word(&mut words, cut.word);
         cut = cut_word(cut.behind);
     }
-    keep(&mut words, cut.word);
+    append_word(&mut words, cut.word);
     (words, cut.behind)
 }
 
-/// Keeps a word, where it is one of the first seven.
-fn keep<'a>(words: &mut Words<'a>, word: &'a [u8])
+/// Appends a word, where it is one of the first seven.
+fn append_word<'a>(words: &mut Words<'a>, word: &'a [u8])
     ensures { map (λ word. word.now) words.new.items ≡ take 7 (map (λ word. word.now) words.old.items ++ word.now ∷ []) }
 {
     if !words.is_full() {

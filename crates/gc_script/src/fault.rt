@@ -1,3 +1,5 @@
+//! Why a text is no script: the first bad line, and the cause of its first failing test.
+
 ghost use Rattle.std.specs.Prelude.{◌≡◌};
 ghost use Rattle.gc_script.specs.Fault.{located, cause_number};
 ghost use Rattle.gc_script.specs.declared.fault.ReadError.TheVariants.{Memory};

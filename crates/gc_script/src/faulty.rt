@@ -49,10 +49,10 @@ fn see_fault_behind<R: Abort + AllocGlobal>(
     Ok(())
 }
 
-/// The name of the type at this place.
-pub(crate) fn type_name(alloc: Global, place: u8) -> Result<String, AllocError> {
-    let first = char::from(b'a' + place / 26);
-    let second = char::from(b'a' + place % 26);
+/// The name of the type of this index.
+pub(crate) fn type_name(alloc: Global, index: u8) -> Result<String, AllocError> {
+    let first = char::from(b'a' + index / 26);
+    let second = char::from(b'a' + index % 26);
     format!(in alloc; "{first}{second}")
 }
 
@@ -196,7 +196,7 @@ fn the_earlier_test_of_a_type_line_is_told(rt: HostRuntime) -> Result<(), Fail> 
         ("type A x 1", TYPE),
         ("type Common x x", TYPE),
         ("type abcdefghijklmnopq 256 0", TYPE),
-        // A name that is taken, before what stands behind it.
+        // A name that is in use, before what stands behind it.
         ("type common x x", DUPLICATE),
         ("type box x 1", DUPLICATE),
         ("type box 1 x", DUPLICATE),
@@ -218,8 +218,8 @@ fn the_earlier_test_of_a_type_line_is_told(rt: HostRuntime) -> Result<(), Fail> 
 #[test]
 fn the_256th_declared_type(rt: HostRuntime) -> Result<(), Fail> {
     let mut full = String::from_str(rt.alloc(), "moar-gc 1\nmutators 1\n")?;
-    for place in 0..255 {
-        let name = type_name(rt.alloc(), place)?;
+    for index in 0..255 {
+        let name = type_name(rt.alloc(), index)?;
         writeln!(full, "type {name} 0 0")?;
     }
     for (line, cause) in [

@@ -10,6 +10,7 @@
 #![tactic(auto)]
 
 mod call_line;
+mod calls;
 mod cut;
 mod fault;
 #[cfg(test)]
@@ -19,7 +20,6 @@ mod lines;
 mod names;
 mod preamble;
 mod read;
-mod reader;
 mod script;
 mod spelling;
 #[cfg(test)]
@@ -31,8 +31,9 @@ mod write_tests;
 
 pub use fault::ScriptFault;
 pub use laws::{
-    a_written_text_gives_its_script, accepted_bytes_are_written_back, texts_of_two_scripts_differ,
+    a_written_text_gives_its_script, accepted_bytes_are_written_back, each_script_is_read_back,
+    texts_of_two_scripts_differ,
 };
-pub use reader::read_script;
+pub use read::read_script;
 pub use script::Script;
 pub use write::write_script;

@@ -1,3 +1,5 @@
+//! The call lines of a script, as a list.
+
 ghost use Rattle.std.specs.Prelude.{◌≡◌, [], ◌∷◌, ◌++◌, length, slice_get, OnOk, OnErr};
 
 use gc_model::Line;
@@ -32,7 +34,7 @@ impl Lines {
         ensures ok { OnOk result (self.new ≡ self.old ++ line ∷ []) }
         ensures err { OnErr result (self.new ≡ self.old) }
     {
-        // Taken apart, since the prover has to be shown the type of the call here.
+        // In two parts, since the prover has to be shown the type of the call here.
         let Line { mutator, call } = line;
         self.lines.push(Line { mutator, call })?;
         Ok(())

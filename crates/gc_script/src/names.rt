@@ -1,12 +1,11 @@
 //! The names of the types, and the types that they name.
 
-ghost use Rattle.std.specs.Prelude.{◌≡◌, ◌<◌, ◌≤◌, [], ◌∷◌, ◌++◌, true, false, length, slice_index_or, IfOk, OnOk};
-ghost use Rattle.gc_script.specs.Grammar.{is_taken};
+ghost use Rattle.std.specs.Prelude.{◌≡◌, ◌<◌, ◌≤◌, [], ◌∷◌, ◌++◌, true, false, length, slice_index_or, OnOk};
+ghost use Rattle.gc_script.specs.Grammar.{is_in_use};
 ghost use Rattle.gc_script.specs.Words.{is_type_name, type_named};
 ghost use Rattle.gc_script.specs.Written.{name_of};
 
 use crate::fault::Cause;
-use gc_layout::TypeNo;
 use indexmap::IndexSet;
 use std::alloc::{AllocError, Global};
 use std::marker::Model;
@@ -46,50 +45,49 @@ impl Names {
         self.names.len()
     }
 
-    /// The type of a declared name.
-    pub(crate) fn type_named(&self, word: &[u8]) -> Result<TypeNo, Cause>
+    /// The number of the type of a declared name.
+    pub(crate) fn type_named(&self, word: &[u8]) -> Result<u8, Cause>
         requires { length self.now < 256 }
-        ensures value { result ≡ type_named self.now word.now }
-        ensures known { IfOk result (λ ty. ty.0 ≤ length self.now) }
+        ensures { result ≡ type_named self.now word.now }
     {
         match self.names.get_index_of(word) {
-            Some(place) => Ok(TypeNo(place as u8 + 1)),
+            Some(index) => Ok(index as u8 + 1),
             None => Err(Cause::Type),
         }
     }
 
     /// Whether the name is `common`, or is declared.
-    pub(crate) fn is_taken(&self, name: &[u8]) -> bool
-        ensures { result ≡ is_taken self.now name.now }
+    pub(crate) fn is_in_use(&self, name: &[u8]) -> bool
+        ensures { result ≡ is_in_use self.now name.now }
     {
         name == b"common".as_slice() || self.names.contains(name)
     }
 
-    /// The name at a place, counted from 0; no bytes where there is none.
-    pub(crate) fn at(&self, place: usize) -> &[u8]
-        ensures name { result.now ≡ slice_index_or self.now place [] }
+    /// The name of this index, counted from 0; no bytes where there is none.
+    pub(crate) fn at(&self, index: usize) -> &[u8]
+        ensures name { result.now ≡ slice_index_or self.now index [] }
         ensures short { length result.now ≤ 16 }
     {
-        match self.names.get_index(place) {
+        match self.names.get_index(index) {
             Some(name) => name.as_slice(),
             None => &[],
         }
     }
 
-    /// The name of a declared type; no bytes where the type isn't declared.
-    pub(crate) fn name_of(&self, ty: TypeNo) -> &[u8]
-        ensures name { result.now ≡ name_of self.now ty.0 }
+    /// The name of the type of this number; no bytes where no name is declared for it.
+    pub(crate) fn name_of(&self, ty: u64) -> &[u8]
+        ensures name { result.now ≡ name_of self.now ty }
         ensures short { length result.now ≤ 16 }
     {
-        match usize::from(ty.0).checked_sub(1) {
-            Some(place) => self.at(place),
+        match ty.checked_sub(1) {
+            Some(index) => self.at(index as usize),
             None => &[],
         }
     }
 
-    /// Appends a type name that isn't taken.
+    /// Appends a type name that isn't in use.
     pub(crate) fn add(&mut self, alloc: Global, name: &[u8]) -> Result<(), AllocError>
-        requires free { is_taken self.old name.now ≡ false }
+        requires free { is_in_use self.old name.now ≡ false }
         requires letters { is_type_name name.now ≡ true }
         ensures { OnOk result (self.new ≡ self.old ++ name.now ∷ []) }
     {

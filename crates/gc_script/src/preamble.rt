@@ -1,3 +1,5 @@
+//! What stands before the call lines of a script.
+
 ghost use Rattle.std.specs.Prelude.{◌≡◌, ◌<◌, ◌≤◌, ◌+◌, true, false, length, map, Err, MatchResult};
 ghost use Rattle.gc_script.specs.Grammar.{shape_of};
 
@@ -18,9 +20,9 @@ pub(crate) struct Preamble {
 
 impl Model for Preamble {
     ghost use Rattle.std.specs.Prelude.{◌≡◌, ◌+◌, ◌≤◌, length};
-    ghost use Rattle.gc_script.specs.Script.{Preamble as Declared};
+    ghost use Rattle.gc_script.specs.Script.{Preamble};
 
-    ghost Value = { Declared };
+    ghost Value = { Preamble };
 
     ghost view = { λ p. record { mutators = p.mutators; names = p.names; types = p.types } };
 
@@ -28,8 +30,8 @@ impl Model for Preamble {
 }
 
 impl Preamble {
-    ghost use Rattle.gc_script.specs.Fault.{Gives};
-    ghost use Rattle.gc_script.specs.Grammar.{is_taken, type_line, with_type};
+    ghost use Rattle.gc_script.specs.Fault.{Reads};
+    ghost use Rattle.gc_script.specs.Grammar.{is_in_use, type_line, with_type};
     ghost use Rattle.gc_script.specs.Script.{first_preamble};
     ghost use Rattle.gc_script.specs.Words.{is_type_name};
     ghost use Rattle.gc_script.specs.declared.fault.ReadError.TheVariants.{Memory};
@@ -83,7 +85,7 @@ impl Preamble {
         alloc: Global,
         words: &[&[u8]],
     ) -> Result<Preamble, ReadError<Cause>>
-        ensures { Gives (λ preamble. preamble) result (type_line self (map (λ word. word.now) words.now)) }
+        ensures { Reads (λ preamble. preamble) result (type_line self (map (λ word. word.now) words.now)) }
     {
         match self.new_type(words) {
             Ok((name, shape)) => self.with_type(alloc, name, shape),
@@ -95,7 +97,7 @@ impl Preamble {
     #[tactic(auto, unfolding(crate::specs::Grammar::type_line))]
     fn new_type<'a>(&self, words: &[&'a [u8]]) -> Result<(&'a [u8], Shape), Cause>
         ensures { MatchResult result
-            (λ new. (is_taken self.now.names new.0.now ≡ false) × (is_type_name new.0.now ≡ true) × (type_line self.now (map (λ word. word.now) words.now) ≡ with_type self.now new.0.now new.1))
+            (λ new. (is_in_use self.now.names new.0.now ≡ false) × (is_type_name new.0.now ≡ true) × (type_line self.now (map (λ word. word.now) words.now) ≡ with_type self.now new.0.now new.1))
             (λ cause. type_line self.now (map (λ word. word.now) words.now) ≡ Err cause) }
     {
         let [_, name, slots, numbers] = words else {
@@ -104,13 +106,13 @@ impl Preamble {
         if !is_type_name(name) {
             return Err(Cause::Type);
         }
-        if self.names.is_taken(name) {
+        if self.names.is_in_use(name) {
             return Err(Cause::Duplicate);
         }
         Ok((*name, shape_of(slots, numbers)?))
     }
 
-    /// What is declared with one more type, whose name is a type name and isn't taken.
+    /// What is declared with one more type, whose name is a type name and isn't in use.
     #[tactic(auto, unfolding(crate::specs::Grammar::with_type))]
     fn with_type(
         self,
@@ -118,9 +120,9 @@ impl Preamble {
         name: &[u8],
         shape: Shape,
     ) -> Result<Preamble, ReadError<Cause>>
-        requires free { is_taken self.names name.now ≡ false }
+        requires free { is_in_use self.names name.now ≡ false }
         requires letters { is_type_name name.now ≡ true }
-        ensures { Gives (λ preamble. preamble) result (with_type self name.now shape) }
+        ensures { Reads (λ preamble. preamble) result (with_type self name.now shape) }
     {
         let Preamble {
             mutators,

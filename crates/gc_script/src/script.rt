@@ -1,3 +1,5 @@
+//! A script as its callers see it.
+
 ghost use Rattle.std.specs.Prelude.{◌≡◌, ◌<◌, ◌≤◌, ◌↔◌, length, slice_get, IsNone, IfSome};
 ghost use Rattle.gc_model.specs.Interim.{IsBuilt};
 ghost use Rattle.gc_script.specs.Text.{most_bytes};
@@ -11,9 +13,8 @@ use std::marker::Model;
 /// The number of the first line behind the version line and the line of the mutators.
 const FIRST_LINE: u32 = 3;
 
-/// A script: the number of mutators, 1 to 8, the types with their names, and the call lines. Each line is
-/// fit: its mutator is there, its type is declared, and its place of the common object is below 16. None is
-/// a Collect.
+/// A script that a text is read as: the number of mutators, 1 to 8, the types with their names, and the call
+/// lines. What it is written as is read as it.
 #[derive(Debug, Drop)]
 pub struct Script {
     preamble: Preamble,
@@ -21,24 +22,24 @@ pub struct Script {
 }
 
 impl Model for Script {
-    ghost use Rattle.std.specs.Prelude.{◌≤◌, length, All};
-    ghost use Rattle.gc_script.specs.Script.{Script as Text, IsScriptLine};
-    ghost use Rattle.gc_script.specs.Text.{most_bytes};
+    ghost use Rattle.gc_script.specs.Laws.{IsWritable};
+    ghost use Rattle.gc_script.specs.Script.{Script};
 
-    ghost Value = { Text };
+    ghost Value = { Script };
 
     ghost view = { λ s. record { preamble = s.preamble; lines = s.lines } };
 
-    ghost invariant = { λ s. (length s.lines ≤ most_bytes) × All (IsScriptLine s.preamble) s.lines };
+    ghost invariant = { λ s. IsWritable (record { preamble = s.preamble; lines = s.lines }) };
 }
 
 impl Script {
     ghost use Rattle.std.specs.Prelude.{All};
+    ghost use Rattle.gc_script.specs.Laws.{IsReadBack};
     ghost use Rattle.gc_script.specs.Script.{IsFitLine, IsScriptLine, number_of_line};
 
     pub(crate) fn new(preamble: Preamble, lines: Lines) -> Script
         requires few { length lines ≤ most_bytes }
-        requires fit { All (IsScriptLine preamble) lines }
+        requires read_back { IsReadBack (record { preamble = preamble; lines = lines }) }
         ensures { result ≡ record { preamble = preamble; lines = lines } }
     {
         Script { preamble, lines }
@@ -46,7 +47,8 @@ impl Script {
 
     /// What stands before the call lines.
     pub(crate) fn preamble(&self) -> &Preamble
-        ensures { result.now ≡ self.now.preamble }
+        ensures preamble { result.now ≡ self.now.preamble }
+        ensures read_back { IsReadBack self.now }
     {
         &self.preamble
     }
@@ -67,20 +69,24 @@ impl Script {
         self.preamble.types()
     }
 
-    /// How many call lines there are. Each is fit, and none is a Collect.
+    /// How many call lines there are. Each is one that a call line can be read as: its mutator is there, its call is
+    /// no End and no Collect, its type is declared and not the common object's, and its place of the common object is
+    /// below 16.
     pub fn count(&self) -> usize
         ensures count { result ≡ length self.now.lines }
         ensures most { result ≤ most_bytes }
+        ensures lines { All (IsScriptLine self.now.preamble) self.now.lines }
         ensures fit { All (IsFitLine self.now.preamble) self.now.lines }
         ensures built { All (λ line. IsBuilt line.call) self.now.lines }
     {
         self.lines.len()
     }
 
-    /// A call line, counted from 0. None exactly where `i` isn't below the count.
+    /// A call line, counted from 0: one that a call line can be read as. None exactly where `i` isn't below the count.
     pub fn line(&self, i: usize) -> Option<Line>
         ensures line { result ≡ slice_get self.now.lines i }
         ensures none { IsNone result ↔ (length self.now.lines ≤ i) }
+        ensures readable { IfSome result (IsScriptLine self.now.preamble) }
         ensures fit { IfSome result (IsFitLine self.now.preamble) }
         ensures built { IfSome result (λ line. IsBuilt line.call) }
     {

@@ -1,16 +1,17 @@
 //! The one spelling of each line of a script.
 
-ghost use Rattle.std.specs.Prelude.{◌≡◌, ◌+◌, ◌<◌, ◌≤◌, [], ◌∷◌, ◌++◌, length, codes, decimal};
-ghost use Rattle.gc_script.specs.Written.{spelled_line, spaced, register_word, call_words, call_text, type_text};
+ghost use Rattle.std.specs.Prelude.{◌≡◌, ◌+◌, ◌*◌, ◌<◌, ◌≤◌, [], ◌∷◌, ◌++◌, length, codes, decimal};
+ghost use Rattle.gc_script.specs.Written.{spelled_line, spaced, register_word, word_of, words_of_kinds, call_words, call_text, type_text};
 
+use crate::calls::{Kind, kinds_of, parts_of, spelled_word};
 use crate::names::Names;
 use arrayvec::ArrayVec;
 use gc_layout::Shape;
-use gc_model::{Call, Reg};
+use gc_model::Call;
 use itoa::Buffer;
 
-/// The most bytes of a line with its newline: more than a swap of the greatest numbers takes.
-const LONGEST_LINE: usize = 64;
+/// The most bytes of a line with its newline: more than a call word and four numbers take.
+const LONGEST_LINE: usize = 128;
 
 /// A line of a script with its newline.
 pub(crate) type SpelledLine = ArrayVec<u8, LONGEST_LINE>;
@@ -21,7 +22,7 @@ pub(crate) fn mutators_text(mutators: u8) -> SpelledLine
 {
     let mut line = ArrayVec::new();
     push(&mut line, b"mutators");
-    push_small(&mut line, mutators);
+    push_number(&mut line, u64::from(mutators));
     push(&mut line, b"\n");
     line
 }
@@ -34,8 +35,8 @@ pub(crate) fn type_text(name: &[u8], shape: Shape) -> SpelledLine
     let mut line = ArrayVec::new();
     push(&mut line, b"type");
     push_word(&mut line, name);
-    push_small(&mut line, shape.slots);
-    push_small(&mut line, shape.numbers);
+    push_number(&mut line, u64::from(shape.slots));
+    push_number(&mut line, u64::from(shape.numbers));
     push(&mut line, b"\n");
     line
 }
@@ -56,114 +57,54 @@ pub(crate) fn call_text(names: &Names, mutator: u8, call: &Call) -> SpelledLine
 fn push_call(line: &mut SpelledLine, names: &Names, call: &Call)
     requires { length line.old.items ≤ 3 }
     ensures text { line.new.items ≡ line.old.items ++ spaced (call_words names.now call.now) }
-    ensures short { length line.new.items < 64 }
+    ensures short { length line.new.items < 128 }
 {
-    match call {
-        Call::New { into, ty } => {
-            push_word(line, b"new");
-            push_register(line, *into);
-            push_word(line, names.name_of(*ty));
-        }
-        Call::Get { into, base, place } => {
-            push_word(line, b"get");
-            push_register(line, *into);
-            push_register(line, *base);
-            push_small(line, *place);
-        }
-        Call::Put { base, place, value } => {
-            push_word(line, b"put");
-            push_register(line, *base);
-            push_small(line, *place);
-            push_register(line, *value);
-        }
-        Call::Ask { base, place } => {
-            push_word(line, b"ask");
-            push_register(line, *base);
-            push_small(line, *place);
-        }
-        Call::Set {
-            base,
-            place,
-            number,
-        } => {
-            push_word(line, b"set");
-            push_register(line, *base);
-            push_small(line, *place);
-            push_number(line, *number);
-        }
-        Call::SwapIf {
-            base,
-            place,
-            expected,
-            replacement,
-        } => {
-            push_word(line, b"swap");
-            push_register(line, *base);
-            push_small(line, *place);
-            push_number(line, *expected);
-            push_number(line, *replacement);
-        }
-        Call::Same { left, right } => {
-            push_word(line, b"same");
-            push_register(line, *left);
-            push_register(line, *right);
-        }
-        Call::CopyReg { into, source } => {
-            push_word(line, b"copy");
-            push_register(line, *into);
-            push_register(line, *source);
-        }
-        Call::ClearReg { reg } => {
-            push_word(line, b"clear");
-            push_register(line, *reg);
-        }
-        Call::Share { place, value } => {
-            push_word(line, b"share");
-            push_small(line, *place);
-            push_register(line, *value);
-        }
-        Call::Take { into, place } => {
-            push_word(line, b"take");
-            push_register(line, *into);
-            push_small(line, *place);
-        }
-        Call::Await { into, place } => {
-            push_word(line, b"await");
-            push_register(line, *into);
-            push_small(line, *place);
-        }
-        Call::Safepoint => push_word(line, b"safepoint"),
-        Call::Block => push_word(line, b"block"),
-        Call::Unblock => push_word(line, b"unblock"),
-        Call::Collect => push_word(line, b"collect"),
-        Call::End => {}
+    if let Some((word, numbers)) = parts_of(call) {
+        push_word(line, spelled_word(word));
+        push_words(line, names, kinds_of(word), numbers.as_slice());
     }
 }
 
-/// A register, behind a space.
-fn push_register(line: &mut SpelledLine, reg: Reg)
-    requires { length line.old.items ≤ 59 }
-    ensures text { line.new.items ≡ line.old.items ++ 32 ∷ register_word reg }
-    ensures short { length line.new.items ≤ length line.old.items + 5 }
+/// The words of these kinds that give as many numbers, each behind a space.
+fn push_words(line: &mut SpelledLine, names: &Names, kinds: &[Kind], numbers: &[u64])
+    requires count { length numbers.now ≡ length kinds.now }
+    requires few { length numbers.now ≤ 4 }
+    requires room { length line.old.items ≤ 16 }
+    ensures text { line.new.items ≡ line.old.items ++ spaced (words_of_kinds names.now kinds.now numbers.now) }
+    ensures short { length line.new.items ≤ length line.old.items + 22 * length numbers.now }
+{
+    for (index, number) in numbers.iter().enumerate() {
+        push_kind(line, names, kinds[index], *number);
+    }
+}
+
+/// The word of a kind that gives a number, behind a space.
+fn push_kind(line: &mut SpelledLine, names: &Names, kind: Kind, number: u64)
+    requires { length line.old.items ≤ 106 }
+    ensures text { line.new.items ≡ line.old.items ++ 32 ∷ word_of names.now kind number }
+    ensures short { length line.new.items ≤ length line.old.items + 22 }
+{
+    match kind {
+        Kind::Register => push_register(line, number),
+        Kind::Small | Kind::CommonPlace | Kind::Number => push_number(line, number),
+        Kind::TypeName => push_word(line, names.name_of(number)),
+    }
+}
+
+/// A register of this number, behind a space.
+fn push_register(line: &mut SpelledLine, number: u64)
+    requires { length line.old.items ≤ 106 }
+    ensures text { line.new.items ≡ line.old.items ++ 32 ∷ register_word number }
+    ensures short { length line.new.items ≤ length line.old.items + 22 }
 {
     let mut buffer = Buffer::new();
     push(line, b" r");
-    push(line, buffer.format(reg.index()).as_bytes());
-}
-
-/// A number at most 255, behind a space.
-fn push_small(line: &mut SpelledLine, number: u8)
-    requires { length line.old.items ≤ 60 }
-    ensures text { line.new.items ≡ line.old.items ++ 32 ∷ decimal number }
-    ensures short { length line.new.items ≤ length line.old.items + 4 }
-{
-    let mut buffer = Buffer::new();
-    push_word(line, buffer.format(number).as_bytes());
+    push(line, buffer.format(number).as_bytes());
 }
 
 /// A number, behind a space.
 fn push_number(line: &mut SpelledLine, number: u64)
-    requires { length line.old.items ≤ 43 }
+    requires { length line.old.items ≤ 106 }
     ensures text { line.new.items ≡ line.old.items ++ 32 ∷ decimal number }
     ensures short { length line.new.items ≤ length line.old.items + 21 }
 {
@@ -173,7 +114,7 @@ fn push_number(line: &mut SpelledLine, number: u64)
 
 /// A word, behind a space.
 fn push_word(line: &mut SpelledLine, word: &[u8])
-    requires { length line.old.items + length word.now < 64 }
+    requires { length line.old.items + length word.now < 128 }
     ensures text { line.new.items ≡ line.old.items ++ 32 ∷ word.now }
     ensures short { length line.new.items ≡ length line.old.items + length word.now + 1 }
 {
@@ -183,7 +124,7 @@ fn push_word(line: &mut SpelledLine, word: &[u8])
 
 /// Bytes, behind what stands there.
 fn push(line: &mut SpelledLine, bytes: &[u8])
-    requires { length line.old.items + length bytes.now ≤ 64 }
+    requires { length line.old.items + length bytes.now ≤ 128 }
     ensures text { line.new.items ≡ line.old.items ++ bytes.now }
     ensures short { length line.new.items ≡ length line.old.items + length bytes.now }
 {

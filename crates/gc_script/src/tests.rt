@@ -1,3 +1,5 @@
+//! Scripts that are read, and what is read of them.
+
 use crate::faulty::{VERSION, bad, read, type_name};
 use crate::{ScriptFault, read_script};
 use gc_layout::TypeNo;
@@ -6,21 +8,46 @@ use std::mem::size_of;
 use std::test::Fail;
 
 /// A script of one mutator, with one type.
-const BOX: &str = "moar-gc 1\nmutators 1\ntype box 0 1\n0 new r0 box\n0 set r0 0 42\n0 ask r0 0\n";
+const BOX: &str = "moar-gc 1\n\
+    mutators 1\n\
+    type box 0 1\n\
+    0 new r0 box\n\
+    0 set r0 0 42\n\
+    0 ask r0 0\n";
 
 /// A script with a line of each call word, all of the last of eight mutators.
-const EACH_CALL_WORD: &str = "moar-gc 1\nmutators 8\ntype pair 2 0\n\
-    7 new r1 pair\n7 get r1 r2 3\n7 put r1 3 r2\n7 ask r1 3\n7 set r1 3 4\n7 swap r1 3 4 5\n\
-    7 same r1 r2\n7 copy r1 r2\n7 clear r1\n7 share 3 r1\n7 take r1 3\n7 await r1 3\n\
-    7 safepoint\n7 block\n7 unblock\n";
+const EACH_CALL_WORD: &str = "moar-gc 1\n\
+    mutators 8\n\
+    type pair 2 0\n\
+    7 new r1 pair\n\
+    7 get r1 r2 3\n\
+    7 put r1 3 r2\n\
+    7 ask r1 3\n\
+    7 set r1 3 4\n\
+    7 swap r1 3 4 5\n\
+    7 same r1 r2\n\
+    7 copy r1 r2\n\
+    7 clear r1\n\
+    7 share 3 r1\n\
+    7 take r1 3\n\
+    7 await r1 3\n\
+    7 safepoint\n\
+    7 block\n\
+    7 unblock\n";
+
+/// Types whose names are words of the language.
+const WORDS_AS_NAMES: &str = "moar-gc 1\n\
+    mutators 1\n\
+    type type 0 0\n\
+    type new 0 0\n\
+    0 new r0 new\n";
 
 #[test]
 fn texts_are_read_by_the_grammar(rt: HostRuntime) {
-    let last_line_open =
-        "moar-gc 1\nmutators 1\ntype box 0 1\n0 new r0 box\n0 set r0 0 42\n0 ask r0 0";
     for (text, count) in [
         (BOX, 3),
-        (last_line_open, 3),
+        // The last newline may be left out.
+        (BOX.trim_end(), 3),
         ("moar-gc 1\nmutators 2", 0),
         ("moar-gc 1\nmutators 2\n", 0),
         ("moar-gc 1\nmutators 8\n7 clear r15\n", 1),
@@ -31,17 +58,14 @@ fn texts_are_read_by_the_grammar(rt: HostRuntime) {
         ("moar-gc 1\nmutators 1\ntype wide 0 62\n", 0),
         // The longest name, and names that are words of the language.
         ("moar-gc 1\nmutators 1\ntype abcdefghijklmnop 0 0\n", 0),
-        (
-            "moar-gc 1\nmutators 1\ntype type 0 0\ntype new 0 0\n0 new r0 new\n",
-            1,
-        ),
+        (WORDS_AS_NAMES, 1),
     ] {
         assert_eq!(rt; read(rt.alloc(), text.as_bytes()), Ok(count), "at {text:?}");
     }
 }
 
 #[test]
-fn a_script_holds_what_was_read(rt: HostRuntime) -> Result<(), Fail> {
+fn a_script_is_what_was_read(rt: HostRuntime) -> Result<(), Fail> {
     let script = read_script(rt.alloc(), BOX.as_bytes())?;
     assert_eq!(rt; script.mutators(), 1);
     assert_eq!(rt; script.types().count(), 2);
@@ -136,30 +160,30 @@ fn each_call_word_reads_as_its_call(rt: HostRuntime) -> Result<(), Fail> {
 }
 
 #[test]
-fn each_of_255_types_is_found_by_its_name(rt: HostRuntime) -> Result<(), Fail> {
+fn each_of_255_types_is_known_by_its_name(rt: HostRuntime) -> Result<(), Fail> {
     let mut text = String::from_str(rt.alloc(), "moar-gc 1\nmutators 1\n")?;
-    for place in 0..255 {
-        let name = type_name(rt.alloc(), place)?;
+    for index in 0..255 {
+        let name = type_name(rt.alloc(), index)?;
         writeln!(text, "type {name} 0 0")?;
     }
-    for place in 0..255 {
-        let name = type_name(rt.alloc(), place)?;
+    for index in 0..255 {
+        let name = type_name(rt.alloc(), index)?;
         writeln!(text, "0 new r0 {name}")?;
     }
     let script = read_script(rt.alloc(), text.as_bytes())?;
     assert_eq!(rt; script.types().count(), 256);
     assert_eq!(rt; script.count(), 255);
     let into = Reg::make(0).ok_or("no register")?;
-    for place in 0..255 {
+    for index in 0..255 {
         let call = Call::New {
             into,
-            ty: TypeNo(place + 1),
+            ty: TypeNo(index + 1),
         };
         let line = Line { mutator: 0, call };
         assert_eq!(rt;
-            script.line(usize::from(place)),
+            script.line(usize::from(index)),
             Some(line),
-            "at type {place}"
+            "at type {index}"
         );
     }
     Ok(())

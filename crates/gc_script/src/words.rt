@@ -8,7 +8,6 @@ ghost use Rattle.gc_script.specs.Words.{numeral, number_below, number, small, co
 ghost use Rattle.gc_script.specs.declared.fault.Cause.TheVariants.{Mutator};
 
 use crate::fault::Cause;
-use gc_model::Reg;
 
 /// How many registers and how many places of the common object there are.
 const SIXTEEN: u64 = 16;
@@ -74,12 +73,10 @@ fn value_of(digits: &[u8]) -> Option<u64>
 }
 
 /// A number at most 15, a place of the common object.
-pub(crate) fn common_place(word: &[u8]) -> Result<u8, Cause>
-    ensures value { result ≡ common_place word.now }
-    ensures below { IfOk result (λ place. place < 16) }
+pub(crate) fn common_place(word: &[u8]) -> Result<u64, Cause>
+    ensures { result ≡ common_place word.now }
 {
-    let value = number_below(SIXTEEN, Cause::Number, word)?;
-    Ok(value as u8)
+    number_below(SIXTEEN, Cause::Number, word)
 }
 
 /// A number below that of the script's mutators.
@@ -91,16 +88,15 @@ pub(crate) fn mutator_below(mutators: u8, word: &[u8]) -> Result<u8, Cause>
     Ok(value as u8)
 }
 
-/// `r` and a number at most 15.
+/// `r` and a number at most 15: the number of a register.
 #[tactic(auto, unfolding(crate::specs::Words::register))]
-pub(crate) fn register(word: &[u8]) -> Result<Reg, Cause>
+pub(crate) fn register(word: &[u8]) -> Result<u64, Cause>
     ensures { result ≡ register word.now }
 {
-    let [b'r', digits @ ..] = word else {
-        return Err(Cause::Register);
-    };
-    let value = number_below(SIXTEEN, Cause::Register, digits)?;
-    Reg::make(value as u8).ok_or(Cause::Register)
+    match word {
+        [b'r', digits @ ..] => number_below(SIXTEEN, Cause::Register, digits),
+        _ => Err(Cause::Register),
+    }
 }
 
 /// Whether the word is 1 to 16 bytes `a` to `z`.

@@ -4,6 +4,7 @@ ghost use Rattle.std.specs.Prelude.{◌≡◌, ◌+◌, ◌<◌, ◌≤◌, [], 
 ghost use Rattle.gc_io.specs.Faults.{HasRisen};
 ghost use Rattle.gc_io.specs.Streams.{Appends, AppendsPrefix};
 ghost use Rattle.gc_layout.specs.Shape.{common_shape};
+ghost use Rattle.gc_script.specs.Laws.{IsReadBack};
 ghost use Rattle.gc_script.specs.Written.{written, preamble_text, head_text, types_text, type_text, call_text, declared_shapes};
 
 use crate::preamble::Preamble;
@@ -13,11 +14,13 @@ use gc_io::{Put, Sink};
 use gc_model::Line;
 
 /// Writes a script in its one spelling: single spaces, no needless zeros, and a newline behind each line.
-/// Each line is one piece, and the first fault ends the writing. It takes no memory.
+/// What is written is read as the script. Each line is one piece, and the first fault ends the writing. It takes no
+/// memory.
 pub fn write_script<K: Sink>(s: &Script, out: &mut K) -> Put
     ensures all { result ≡ Put.All → Appends (K.written out.old) (K.written out.new) (written s.now) }
     ensures failed { result ≡ Put.Failed → HasRisen (K.faults out.old) (K.faults out.new) }
     ensures part { result ≡ Put.Failed → AppendsPrefix (K.written out.old) (K.written out.new) (written s.now) }
+    ensures read_back { IsReadBack s.now }
     ensures never_falls { K.faults out.old ≤ K.faults out.new }
 {
     match write_preamble(s.preamble(), out) {
@@ -65,8 +68,8 @@ fn write_types<K: Sink>(preamble: &Preamble, out: &mut K) -> Put
         → AppendsPrefix (K.written out.old) (K.written out.new) (types_text preamble.now.names (declared_shapes preamble.now.types)) }
     ensures never_falls { K.faults out.old ≤ K.faults out.new }
 {
-    for place in 0..preamble.names().len() {
-        let line = type_line(preamble, place);
+    for index in 0..preamble.names().len() {
+        let line = type_line(preamble, index);
         match out.put(line.as_slice()) {
             Put::All => {}
             Put::Failed => return Put::Failed,
@@ -76,13 +79,13 @@ fn write_types<K: Sink>(preamble: &Preamble, out: &mut K) -> Put
 }
 
 /// The line of a declared type, counted from 0.
-fn type_line(preamble: &Preamble, place: usize) -> SpelledLine
-    requires { place < length preamble.now.names }
-    ensures { result.items ≡ type_text (slice_index_or preamble.now.names place []) (slice_index_or preamble.now.types (place + 1) common_shape) }
+fn type_line(preamble: &Preamble, index: usize) -> SpelledLine
+    requires { index < length preamble.now.names }
+    ensures { result.items ≡ type_text (slice_index_or preamble.now.names index []) (slice_index_or preamble.now.types (index + 1) common_shape) }
 {
     let names = preamble.names();
     let shapes = preamble.types().as_slice();
-    type_text(names.at(place), shapes[place + 1])
+    type_text(names.at(index), shapes[index + 1])
 }
 
 /// Writes the call lines.
@@ -94,8 +97,8 @@ fn write_calls<K: Sink>(s: &Script, out: &mut K) -> Put
         → AppendsPrefix (K.written out.old) (K.written out.new) (flat_map (call_text s.now.preamble.names) s.now.lines) }
     ensures never_falls { K.faults out.old ≤ K.faults out.new }
 {
-    for place in 0..s.count() {
-        let line = call_line(s, place);
+    for index in 0..s.count() {
+        let line = call_line(s, index);
         match out.put(line.as_slice()) {
             Put::All => {}
             Put::Failed => return Put::Failed,
@@ -105,10 +108,10 @@ fn write_calls<K: Sink>(s: &Script, out: &mut K) -> Put
 }
 
 /// A call line, counted from 0.
-fn call_line(s: &Script, place: usize) -> SpelledLine
-    requires { place < length s.now.lines }
-    ensures { IfSome (slice_get s.now.lines place) (λ line. result.items ≡ call_text s.now.preamble.names line) }
+fn call_line(s: &Script, index: usize) -> SpelledLine
+    requires { index < length s.now.lines }
+    ensures { IfSome (slice_get s.now.lines index) (λ line. result.items ≡ call_text s.now.preamble.names line) }
 {
-    let Line { mutator, call } = s.line(place).unwrap();
+    let Line { mutator, call } = s.line(index).unwrap();
     call_text(s.preamble().names(), mutator, &call)
 }

@@ -1,70 +1,146 @@
+//! What the writer puts into a sink: each line as one piece, and nothing behind a put that failed.
+
+ghost use Rattle.std.specs.Prelude.{None};
+
 use crate::{read_script, write_script};
-use gc_io::{MemorySink, Put};
-use std::alloc::Global;
+use gc_io::{Put, Sink};
+use std::alloc::{AllocError, Global};
 use std::test::Fail;
 
+/// A script without types and calls.
+const BARE: &str = "moar-gc 1\n\
+    mutators 1\n";
+
+/// A script of five lines.
+const FIVE_LINES: &str = "moar-gc 1\n\
+    mutators 1\n\
+    type box 0 1\n\
+    0 new r0 box\n\
+    0 ask r0 0\n";
+
+/// Types alone, in no order of their names.
+const TYPES: &str = "moar-gc 1\n\
+    mutators 1\n\
+    type b 31 0\n\
+    type a 0 31\n";
+
 /// A text in its one spelling, with each call word, and the least and the greatest word of each kind.
-const EACH_WORD: &str =
-    "moar-gc 1\nmutators 8\ntype a 0 0\ntype abcdefghijklmnop 62 0\ntype zz 0 62\n\
-    0 new r0 a\n7 new r15 abcdefghijklmnop\n3 new r10 zz\n7 get r15 r9 255\n7 put r1 0 r14\n\
-    7 ask r15 255\n7 set r15 255 18446744073709551615\n0 set r0 0 0\n\
-    7 swap r15 255 18446744073709551615 18446744073709551614\n0 swap r0 0 0 10\n7 same r15 r11\n\
-    7 copy r12 r13\n7 clear r15\n7 share 15 r0\n0 share 0 r15\n7 take r0 15\n7 await r15 0\n\
-    7 safepoint\n7 block\n7 unblock\n";
+const EACH_WORD: &str = "moar-gc 1\n\
+    mutators 8\n\
+    type a 0 0\n\
+    type abcdefghijklmnop 62 0\n\
+    type zz 0 62\n\
+    0 new r0 a\n\
+    7 new r15 abcdefghijklmnop\n\
+    3 new r10 zz\n\
+    7 get r15 r9 255\n\
+    7 put r1 0 r14\n\
+    7 ask r15 255\n\
+    7 set r15 255 18446744073709551615\n\
+    0 set r0 0 0\n\
+    7 swap r15 255 18446744073709551615 18446744073709551614\n\
+    0 swap r0 0 0 10\n\
+    7 same r15 r11\n\
+    7 copy r12 r13\n\
+    7 clear r15\n\
+    7 share 15 r0\n\
+    0 share 0 r15\n\
+    7 take r0 15\n\
+    7 await r15 0\n\
+    7 safepoint\n\
+    7 block\n\
+    7 unblock\n";
 
-/// A text of five lines.
-const FIVE_LINES: &str = "moar-gc 1\nmutators 1\ntype box 0 1\n0 new r0 box\n0 ask r0 0\n";
+/// Records each call: its piece and a `|`, or a `!` where it is the call that fails, counted from 1.
+#[derive(Drop)]
+struct Recorder {
+    record: Vec<u8>,
+    failing: u64,
+    calls: u64,
+    faults: u64,
+}
 
-/// How it ends to write the script of a text, where these calls fail, and what the sink has got.
-fn write(alloc: Global, text: &str, failing: &[u32]) -> Result<(Put, MemorySink), Fail> {
+impl Sink for Recorder {
+    ghost written = { λ _. None };
+
+    ghost faults = { λ r. r.faults };
+
+    fn put(&mut self, piece: &[u8]) -> Put {
+        self.calls = self.calls.saturating_add(1);
+        if self.calls == self.failing && !piece.is_empty() {
+            let _ = self.record.push(b'!');
+            self.faults = self.faults.saturating_add(1);
+            return Put::Failed;
+        }
+        let _ = self.record.extend_from_slice(piece);
+        let _ = self.record.push(b'|');
+        Put::All
+    }
+}
+
+/// What is recorded where a text's lines are pieces, and this call fails.
+fn recorded(alloc: Global, text: &str, failing: u64) -> Result<Vec<u8>, AllocError> {
+    let mut record = Vec::new(alloc);
+    let mut call: u64 = 1;
+    for byte in text.as_bytes() {
+        if call == failing {
+            record.push(b'!')?;
+            break;
+        }
+        record.push(*byte)?;
+        if *byte == b'\n' {
+            record.push(b'|')?;
+            call = call.saturating_add(1);
+        }
+    }
+    Ok(record)
+}
+
+/// How it ends to write the script of a text into a sink of which this call fails, and what the sink recorded.
+fn write(alloc: Global, text: &str, failing: u64) -> Result<(Put, Vec<u8>), Fail> {
     let script = read_script(alloc, text.as_bytes())?;
-    let mut sink = MemorySink::make(alloc, 4096, Vec::from_slice(alloc, failing)?)?;
+    let mut sink = Recorder {
+        record: Vec::new(alloc),
+        failing,
+        calls: 0,
+        faults: 0,
+    };
     let put = write_script(&script, &mut sink);
-    Ok((put, sink))
+    Ok((put, sink.record))
 }
 
 #[test]
-fn a_script_is_written_in_its_one_spelling(rt: HostRuntime) -> Result<(), Fail> {
-    for (text, spelled) in [
-        ("moar-gc 1\nmutators 1\n", "moar-gc 1\nmutators 1\n"),
-        ("moar-gc 1\nmutators 8", "moar-gc 1\nmutators 8\n"),
-        (
-            "moar-gc 1\nmutators 1\ntype b 31 0\ntype a 0 31",
-            "moar-gc 1\nmutators 1\ntype b 31 0\ntype a 0 31\n",
-        ),
-        (
-            "moar-gc 1\nmutators 2\n1 safepoint",
-            "moar-gc 1\nmutators 2\n1 safepoint\n",
-        ),
-        (FIVE_LINES, FIVE_LINES),
-        (EACH_WORD, EACH_WORD),
-        (EACH_WORD.trim_end(), EACH_WORD),
-    ] {
-        let (put, sink) = write(rt.alloc(), text, &[])?;
-        assert_eq!(rt; put, Put::All, "at {text:?}");
-        assert_eq!(rt; sink.bytes(), spelled.as_bytes(), "at {text:?}");
+fn each_line_is_one_piece(rt: HostRuntime) -> Result<(), Fail> {
+    for text in [BARE, TYPES, FIVE_LINES, EACH_WORD] {
+        for read in [text, text.trim_end()] {
+            let (put, record) = write(rt.alloc(), read, 0)?;
+            let all = recorded(rt.alloc(), text, 0)?;
+            assert_eq!(rt; put, Put::All, "at {read:?}");
+            assert_eq!(rt; record.as_slice(), all.as_slice(), "at {read:?}");
+        }
     }
     Ok(())
 }
 
-// Each line is one piece.
+// Each call fails in turn, and then one that isn't made.
 #[test]
-fn the_lines_before_a_fault_are_written(rt: HostRuntime) -> Result<(), Fail> {
-    for (failing, end, written) in [
-        (1, Put::Failed, ""),
-        (2, Put::Failed, "moar-gc 1\n"),
-        (3, Put::Failed, "moar-gc 1\nmutators 1\n"),
-        (4, Put::Failed, "moar-gc 1\nmutators 1\ntype box 0 1\n"),
-        (
-            5,
-            Put::Failed,
-            "moar-gc 1\nmutators 1\ntype box 0 1\n0 new r0 box\n",
-        ),
-        (6, Put::All, FIVE_LINES),
-    ] {
-        let (put, sink) = write(rt.alloc(), FIVE_LINES, &[failing])?;
-        assert_eq!(rt; put, end, "at call {failing}");
-        assert_eq!(rt; sink.bytes(), written.as_bytes(), "at call {failing}");
+fn nothing_is_put_behind_a_fault(rt: HostRuntime) -> Result<(), Fail> {
+    for (text, lines) in [(BARE, 2), (TYPES, 4), (FIVE_LINES, 5), (EACH_WORD, 25)] {
+        for failing in 1..lines + 2 {
+            let (put, record) = write(rt.alloc(), text, failing)?;
+            let before = recorded(rt.alloc(), text, failing)?;
+            let end = if failing <= lines {
+                Put::Failed
+            } else {
+                Put::All
+            };
+            assert_eq!(rt; put, end, "at call {failing} of {text:?}");
+            assert_eq!(rt;
+                record.as_slice(),
+                before.as_slice(),
+                "at call {failing} of {text:?}"
+            );
+        }
     }
     Ok(())
 }

@@ -4,8 +4,11 @@ use Rattle.gc_script.specs.Written.{types_text, declared_shapes}
 use Rattle.gc_script.proofs.write.write_types.Given as goal
 
 -- the sink got the lines of the types so far
-abbrev pub invariant-loop-place : goal.invariant-loop-place
-invariant-loop-place g l =
-    (text : List ℕ) × Appends (g.K.Sink.written l.fn.out) (g.K.Sink.written l.out) text
-    × (text ++ types_text (drop l.place l.preamble.names) (drop (l.place + 1) l.preamble.types) ≡ types_text l.preamble.names (declared_shapes l.preamble.types))
-    × (g.K.Sink.faults l.fn.out ≤ g.K.Sink.faults l.out)
+abbrev pub invariant-loop-index : goal.invariant-loop-index
+invariant-loop-index g l = record {
+  text : List ℕ;
+  got : Appends (g.K.Sink.written l.fn.out) (g.K.Sink.written l.out) text;
+  left : text ++ types_text (drop l.index l.preamble.names) (drop (l.index + 1) l.preamble.types)
+      ≡ types_text l.preamble.names (declared_shapes l.preamble.types);
+  faults : g.K.Sink.faults l.fn.out ≤ g.K.Sink.faults l.out;
+}

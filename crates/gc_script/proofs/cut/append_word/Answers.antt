@@ -1,7 +1,7 @@
 use Rattle.std.proofs.Common.{◌≡◌, ℕ, List, [], ◌∷◌, length, map, Bor, sym, ◌∙◌, arith}
 use Rattle.std.proofs.lemmas.Bool.Decides.{nat_tests}
 use Rattle.std.proofs.lemmas.List.{take_at, length-map}
-use Rattle.gc_script.proofs.cut.keep.Goals as goal
+use Rattle.gc_script.proofs.cut.append_word.Goals as goal
 
 pub returns-else-not-is_full : goal.returns-else-not-is_full
 returns-else-not-is_full c =

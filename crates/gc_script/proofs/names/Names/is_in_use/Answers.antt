@@ -1,7 +1,7 @@
 use Rattle.std.proofs.Common.{arith}
 use Rattle.std.proofs.lemmas.Grind.{common_steps}
 use Rattle.gc_script.proofs.NameLemmas.{list_any-names}
-use Rattle.gc_script.proofs.names.Names.is_taken.Goals as goal
+use Rattle.gc_script.proofs.names.Names.is_in_use.Goals as goal
 
 pub returns-else-eq : goal.returns-else-eq
 returns-else-eq c =
