@@ -10,12 +10,13 @@ use Rattle.gc_layout.specs.Head.{head_word}
 use Rattle.gc_layout.specs.Places.{Layout, IsWithinLimits, word_count}
 use Rattle.gc_layout.specs.Shape.{common_shape, size_of}
 use Rattle.gc_layout.specs.Types.{AreTypes}
-use Rattle.gc_model.proofs.Sound.{IsThere, first_world-sound, with_object-sound, named_by-there}
+use Rattle.gc_model.specs.Laws.{IsThere}
+use Rattle.gc_model.proofs.Sound.{first_world-sound, with_object-sound, named_by-there}
 use Rattle.gc_model.specs.Answer.{shape_at}
 use Rattle.gc_model.specs.Graph.{Object, Graph, common_object, object_at, object_size, fresh_object}
 use Rattle.gc_model.specs.World.{World, first_world, fresh_mutator, mutator_at, named_by, with_object}
 use Rattle.gc_cli.specs.declared.heap.Bay.{Bay}
-use Rattle.gc_cli.specs.Heap.{Placement, StandAt, LiesAt, IsShaped, Shows, address_of, object_words, bay_at, bump_start, common_start, fresh_bay, head_of}
+use Rattle.gc_cli.specs.Heap.{Placement, StandAt, LiesAt, IsShaped, Shows, name_address, object_words, bay_at, bump_start, common_start, fresh_bay, head_of}
 use Rattle.gc_cli.proofs.HeapPlaces.{not_free, word_within}
 use Rattle.gc_cli.proofs.HeapShows.{used_within, lies-used}
 use Rattle.gc_cli.proofs.HeapWords.{length-object_words, fresh_words, get_or-replicate_same, made_words-own, made_words-other}
@@ -69,14 +70,14 @@ shows_first types layout words bays start header are limits words_are bays_are s
           λ meet. not_free layout bays 18 None start 0 t k limits within lies (lit< tt) there behind in_half (omega (arith, meet)) in
           get_or-set_other words start (bump_start layout t + k) header 0 away ∙ zeros (bump_start layout t + k);
       used = λ t there. (unused t, within t there);
-      held = λ t reg there. ap (λ (bay : Bay). get_or bay.registers reg 0) (fresh t) ∙ get_or-replicate_same 16 reg 0 ∙ sym (ap (λ m. address_of (start ∷ []) (get_or m.registers reg None)) (mutator t) ∙ ap (address_of (start ∷ [])) (get_or-replicate_same 16 reg None));
+      registered = λ t reg there. ap (λ (bay : Bay). get_or bay.registers reg 0) (fresh t) ∙ get_or-replicate_same 16 reg 0 ∙ sym (ap (λ m. name_address (start ∷ []) (get_or m.registers reg None)) (mutator t) ∙ ap (name_address (start ∷ [])) (get_or-replicate_same 16 reg None));
       blocked = λ t there. ap (λ (bay : Bay). bay.blocked) (fresh t) ∙ sym (ap (λ m. m.blocked) (mutator t));
     }
 
 -- an address for one more object leaves those of the others
-address_of-push : (placement : Placement) (address : ℕ) (name : Option ℕ) → IsThere (length placement) name → address_of (placement ++ address ∷ []) name ≡ address_of placement name
-address_of-push placement address None there = refl
-address_of-push placement address (Some number) there = get_or-append placement (address ∷ []) 0 number there
+name_address-push : (placement : Placement) (address : ℕ) (name : Option ℕ) → IsThere (length placement) name → name_address (placement ++ address ∷ []) name ≡ name_address placement name
+name_address-push placement address None there = refl
+name_address-push placement address (Some number) there = get_or-append placement (address ∷ []) 0 number there
 
 -- two functions that agree on a list's elements map it to one list
 map-same : (f g : Option ℕ → ℕ) (xs : List (Option ℕ)) → ((k : ℕ) (d : Option ℕ) → k < length xs → f (get_or xs k d) ≡ g (get_or xs k d)) → map f xs ≡ map g xs
@@ -88,8 +89,8 @@ map-same f g (x ∷ xs) each =
 -- so the words of the others stay
 object_words-push : (placement : Placement) (address : ℕ) (object : Object) → All (IsThere (length placement)) object.slots → object_words (placement ++ address ∷ []) object ≡ object_words placement object
 object_words-push placement address object there =
-    let slots : map (address_of (placement ++ address ∷ [])) object.slots ≡ map (address_of placement) object.slots =
-    map-same (address_of (placement ++ address ∷ [])) (address_of placement) object.slots (λ k d below. address_of-push placement address (get_or object.slots k d) (there k d below)) in
+    let slots : map (name_address (placement ++ address ∷ [])) object.slots ≡ map (name_address placement) object.slots =
+    map-same (name_address (placement ++ address ∷ [])) (name_address placement) object.slots (λ k d below. name_address-push placement address (get_or object.slots k d) (there k d below)) in
     ap (λ (xs : List ℕ). head_word (head_of object.ty object.maker) ∷ 0 ∷ xs ++ object.numbers) slots
 
 -- the words and the bays show the world with one more object, where its header is written behind the used words of
@@ -192,11 +193,11 @@ shows_new types layout words bays other placement world shown t ty address heade
             | inl same ↦ rw (same, made_words-own world.graph ty t shape) (used ∙ omega (arith, shown.used t there), still t there)
             | inr differs ↦ rw (stays u differs, made_words-other world.graph ty t u shape differs) (shown.used u below)
           ];
-      held = λ u reg below.
+      registered = λ u reg below.
           let named : IsThere (length placement) (named_by world u reg) = rw shown.placed (named_by-there world shown.sound u reg) in
           elim (cases_eq u t) [
-            | inl same ↦ rw (same, registers) (rw same at (shown.held u reg below ∙ sym (address_of-push placement address (named_by world u reg) named)))
-            | inr differs ↦ rw (stays u differs) (shown.held u reg below ∙ sym (address_of-push placement address (named_by world u reg) named))
+            | inl same ↦ rw (same, registers) (rw same at (shown.registered u reg below ∙ sym (name_address-push placement address (named_by world u reg) named)))
+            | inr differs ↦ rw (stays u differs) (shown.registered u reg below ∙ sym (name_address-push placement address (named_by world u reg) named))
           ];
       blocked = λ u below.
           elim (cases_eq u t) [

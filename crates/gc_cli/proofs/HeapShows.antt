@@ -10,7 +10,7 @@ use Rattle.gc_model.specs.Graph.{Object, Graph, common_object, object_at, object
 use Rattle.gc_model.specs.Laws.{IsSound}
 use Rattle.gc_model.specs.World.{World, Mutator, fresh_mutator, mutator_at, named_by, is_blocked, with_mutator, with_number, with_slot}
 use Rattle.gc_cli.specs.declared.heap.Bay.{Bay}
-use Rattle.gc_cli.specs.Heap.{Placement, StandAt, LiesAt, IsShaped, Shows, address_of, object_words, bay_at, bump_start}
+use Rattle.gc_cli.specs.Heap.{Placement, StandAt, LiesAt, IsShaped, Shows, name_address, object_words, bay_at, bump_start}
 use Rattle.gc_cli.proofs.HeapPlaces.{word_within, not_free}
 use Rattle.gc_cli.proofs.HeapWords.{length-object_words, slot_read, slot_write, number_read, number_write, kept_at, made_words-set}
 
@@ -92,21 +92,21 @@ shows_changed types layout words bays placement world shown i behind v object in
           λ meet. not_free layout bays (object_size old) old.maker (get_or placement i 0) behind t k shown.limits within (shown.lying i in_graph) inside there unused in_half (sym meet) in
           get_or-set_other words (get_or placement i 0 + behind) (bump_start layout t + k) v 0 away ∙ shown.free t k there unused in_half;
       used = λ t there. rw (made_words-set world.graph i object t size maker) (shown.used t there);
-      held = shown.held;
+      registered = shown.registered;
       blocked = shown.blocked;
     }
 
 -- a slot's word holds the address of what it names
-pub slot_at : (types : List Shape) (layout : Layout) (words : List ℕ) (bays : List Bay) (placement : Placement) (world : World) → Shows types layout words bays placement world → (i place : ℕ) → i < length world.graph → place < length (object_at world.graph i).slots → get_or words (get_or placement i 0 + (2 + place)) 0 ≡ address_of placement (get_or (object_at world.graph i).slots place None)
+pub slot_at : (types : List Shape) (layout : Layout) (words : List ℕ) (bays : List Bay) (placement : Placement) (world : World) → Shows types layout words bays placement world → (i place : ℕ) → i < length world.graph → place < length (object_at world.graph i).slots → get_or words (get_or placement i 0 + (2 + place)) 0 ≡ name_address placement (get_or (object_at world.graph i).slots place None)
 slot_at types layout words bays placement world shown i place in_graph in_slots =
     let read = word_read types layout words bays placement world shown i (2 + place) in_graph (omega arith) in
     read.2 ∙ slot_read placement (object_at world.graph i) place in_slots
 
 -- and the heap shows the world after a write to it
-pub shows_slot : (types : List Shape) (layout : Layout) (words : List ℕ) (bays : List Bay) (placement : Placement) (world : World) → Shows types layout words bays placement world → (i place : ℕ) (name : Option ℕ) → i < length world.graph → place < length (object_at world.graph i).slots → IfSome name (λ number. number < length world.graph) → Shows types layout (set words (get_or placement i 0 + (2 + place)) (address_of placement name)) bays placement (with_slot world i place name)
+pub shows_slot : (types : List Shape) (layout : Layout) (words : List ℕ) (bays : List Bay) (placement : Placement) (world : World) → Shows types layout words bays placement world → (i place : ℕ) (name : Option ℕ) → i < length world.graph → place < length (object_at world.graph i).slots → IfSome name (λ number. number < length world.graph) → Shows types layout (set words (get_or placement i 0 + (2 + place)) (name_address placement name)) bays placement (with_slot world i place name)
 shows_slot types layout words bays placement world shown i place name in_graph in_slots there =
     let old = object_at world.graph i in
-    shows_changed types layout words bays placement world shown i (2 + place) (address_of placement name) (record old { slots = set old.slots place name }) in_graph (omega arith) refl refl (length-set old.slots place name) refl (slot_write placement old place name in_slots) (with_slot-sound world shown.sound i place name there)
+    shows_changed types layout words bays placement world shown i (2 + place) (name_address placement name) (record old { slots = set old.slots place name }) in_graph (omega arith) refl refl (length-set old.slots place name) refl (slot_write placement old place name in_slots) (with_slot-sound world shown.sound i place name there)
 
 -- a number's word holds it
 pub number_at : (types : List Shape) (layout : Layout) (words : List ℕ) (bays : List Bay) (placement : Placement) (world : World) → Shows types layout words bays placement world → (i place : ℕ) → i < length world.graph → place < length (object_at world.graph i).numbers → get_or words (get_or placement i 0 + (2 + length (object_at world.graph i).slots + place)) 0 ≡ get_or (object_at world.graph i).numbers place 0
@@ -127,8 +127,8 @@ lies-used layout bays other size (Some t) address more lies =
     (lies.0, (lies.1.0, omega (arith, lies.1.1, more t lies.0), lies.1.2))
 
 -- the heap shows the world in which a mutator has other registers, or is blocked or not, where its part has
-pub shows_mutator : (types : List Shape) (layout : Layout) (words : List ℕ) (bays other : List Bay) (placement : Placement) (world : World) → Shows types layout words bays placement world → (t : ℕ) (mutator : Mutator) → length other ≡ 8 → length (bay_at other t).registers ≡ 16 → (bay_at other t).used ≡ (bay_at bays t).used → ((u : ℕ) → (u ≡ t → ⊥) → bay_at other u ≡ bay_at bays u) → t < layout.mutators → ((reg : ℕ) → get_or (bay_at other t).registers reg 0 ≡ address_of placement (get_or mutator.registers reg None)) → (bay_at other t).blocked ≡ mutator.blocked → IsSound (with_mutator world t mutator) → Shows types layout words other placement (with_mutator world t mutator)
-shows_mutator types layout words bays other placement world shown t mutator eight sixteen same_used stays there held blocked sound =
+pub shows_mutator : (types : List Shape) (layout : Layout) (words : List ℕ) (bays other : List Bay) (placement : Placement) (world : World) → Shows types layout words bays placement world → (t : ℕ) (mutator : Mutator) → length other ≡ 8 → length (bay_at other t).registers ≡ 16 → (bay_at other t).used ≡ (bay_at bays t).used → ((u : ℕ) → (u ≡ t → ⊥) → bay_at other u ≡ bay_at bays u) → t < layout.mutators → ((reg : ℕ) → get_or (bay_at other t).registers reg 0 ≡ name_address placement (get_or mutator.registers reg None)) → (bay_at other t).blocked ≡ mutator.blocked → IsSound (with_mutator world t mutator) → Shows types layout words other placement (with_mutator world t mutator)
+shows_mutator types layout words bays other placement world shown t mutator eight sixteen same_used stays there registered blocked sound =
     let used : (u : ℕ) → u < layout.mutators → (bay_at other u).used ≡ (bay_at bays u).used =
     λ u known. elim (cases_eq u t) [ inl same ↦ rw same same_used | inr differs ↦ ap (λ (bay : Bay). bay.used) (stays u differs) ] in
     let count : t < length world.mutators = omega (arith, shown.mutators) in
@@ -150,14 +150,14 @@ shows_mutator types layout words bays other placement world shown t mutator eigh
       apart = shown.apart;
       free = λ u k known unused in_half. shown.free u k known (rw used at unused) in_half;
       used = λ u known. rw (used u known) (shown.used u known);
-      held = λ u reg known.
+      registered = λ u reg known.
           elim (cases_eq u t) [
             | inl same ↦
                 let e : named_by (with_mutator world t mutator) t reg ≡ get_or mutator.registers reg None = ap (λ (m : Mutator). get_or m.registers reg None) here in
-                subst (λ (n : ℕ). get_or (bay_at other n).registers reg 0 ≡ address_of placement (named_by (with_mutator world t mutator) n reg)) (sym same) (held reg ∙ ap (address_of placement) (sym e))
+                subst (λ (n : ℕ). get_or (bay_at other n).registers reg 0 ≡ name_address placement (named_by (with_mutator world t mutator) n reg)) (sym same) (registered reg ∙ ap (name_address placement) (sym e))
             | inr differs ↦
-                ap (λ (bay : Bay). get_or bay.registers reg 0) (stays u differs) ∙ shown.held u reg known
-                ∙ ap (λ (m : Mutator). address_of placement (get_or m.registers reg None)) (sym (get_or-set_other world.mutators t u mutator fresh_mutator differs))
+                ap (λ (bay : Bay). get_or bay.registers reg 0) (stays u differs) ∙ shown.registered u reg known
+                ∙ ap (λ (m : Mutator). name_address placement (get_or m.registers reg None)) (sym (get_or-set_other world.mutators t u mutator fresh_mutator differs))
           ];
       blocked = λ u known.
           elim (cases_eq u t) [
@@ -170,7 +170,7 @@ shows_mutator types layout words bays other placement world shown t mutator eigh
     }
 
 -- two names are one where their addresses are
-pub same_name : (types : List Shape) (layout : Layout) (words : List ℕ) (bays : List Bay) (placement : Placement) (world : World) → Shows types layout words bays placement world → (left right : Option ℕ) → IfSome left (λ number. number < length world.graph) → IfSome right (λ number. number < length world.graph) → address_of placement left ≡ address_of placement right → left ≡ right
+pub same_name : (types : List Shape) (layout : Layout) (words : List ℕ) (bays : List Bay) (placement : Placement) (world : World) → Shows types layout words bays placement world → (left right : Option ℕ) → IfSome left (λ number. number < length world.graph) → IfSome right (λ number. number < length world.graph) → name_address placement left ≡ name_address placement right → left ≡ right
 same_name types layout words bays placement world shown None None there known same = refl
 same_name types layout words bays placement world shown None (Some right) there known same =
     let read = word_read types layout words bays placement world shown right 0 known (omega arith) in

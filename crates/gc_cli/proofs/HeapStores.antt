@@ -7,20 +7,20 @@ use Rattle.gc_model.specs.declared.call.Call.TheVariants.{New}
 use Rattle.gc_model.specs.Interim.{has_room}
 use Rattle.gc_model.specs.declared.reply.Reply.{Reply}
 use Rattle.gc_model.specs.declared.reply.Reply.TheVariants.{Found, Full, Yes}
-use Rattle.gc_model.specs.Answer.{Answer, keeps, does, effect, shape_at}
+use Rattle.gc_model.specs.Answer.{Answer, keeps, does, effect, shape_at, swaps}
 use Rattle.gc_model.specs.Graph.{object_at, object_size, made_words, fresh_object}
 use Rattle.gc_model.specs.World.{World, with_slot, with_number, with_object, with_register}
 use Rattle.gc_cli.specs.declared.heap.Heap.{Heap}
-use Rattle.gc_cli.specs.Heap.{Placement, ShowsBy, Stays, Gives, LiesAt, IsWordOf, address_of, common_start}
+use Rattle.gc_cli.specs.Heap.{Placement, ShowsBy, Stays, IsAnswered, LiesAt, IsWordOf, name_address, common_start}
 use Rattle.gc_cli.proofs.HeapShows.{slot_at, number_at, shows_slot, shows_number}
 
 -- what gives an answer gives one that is equal to it
-pub gives_as : (heap : Heap) (reply : Reply) (one other : Answer) → one ≡ other → Gives heap reply other → Gives heap reply one
-gives_as heap reply one other same given = subst (Gives heap reply) (sym same) given
+pub answered_as : (heap : Heap) (reply : Reply) (one other : Answer) → one ≡ other → IsAnswered heap reply other → IsAnswered heap reply one
+answered_as heap reply one other same given = subst (IsAnswered heap reply) (sym same) given
 
 -- a refusal changes nothing
-pub gives_kept : (heap : Heap) (placement : Placement) (world : World) (reply : Reply) → ShowsBy heap placement world → Gives heap reply (keeps world reply)
-gives_kept heap placement world reply shown = record { reply_is = refl; shown = (placement, shown) }
+pub answered_same : (heap : Heap) (placement : Placement) (world : World) (reply : Reply) → ShowsBy heap placement world → IsAnswered heap reply (keeps world reply)
+answered_same heap placement world reply shown = record { reply_is = refl; shown = (placement, shown) }
 
 -- the common object stands in its place
 pub common_at : (heap : Heap) (placement : Placement) (world : World) → ShowsBy heap placement world → get_or placement 0 0 ≡ common_start heap.places
@@ -29,48 +29,43 @@ common_at heap placement world shown =
     lies.1
 
 -- a word of the common object
-pub common_word : (heap : Heap) (placement : Placement) (world : World) → ShowsBy heap placement world → (address place : ℕ) → address ≡ common_start heap.places + 2 + place → place < 16 → IsWordOf heap address placement world 0 (2 + place)
-common_word heap placement world shown address place address_is within = record {
+pub common_object_word : (heap : Heap) (placement : Placement) (world : World) → ShowsBy heap placement world → (address place : ℕ) → address ≡ common_start heap.places + 2 + place → place < 16 → IsWordOf heap address placement world 0 (2 + place)
+common_object_word heap placement world shown address place address_is within = record {
   shown = shown;
   in_graph = shown.sound.common;
   inside = omega (arith, within, shown.common.1);
-  found = omega (arith, address_is, common_at heap placement world shown);
+  address_is = omega (arith, address_is, common_at heap placement world shown);
 }
 
 -- the word of a slot holds the address of what it names
-pub slot_word : (heap : Heap) (address : ℕ) (placement : Placement) (world : World) (object place : ℕ) → IsWordOf heap address placement world object (2 + place) → place < length (object_at world.graph object).slots → get_or heap.words.items address 0 ≡ address_of placement (get_or (object_at world.graph object).slots place None)
+pub slot_word : (heap : Heap) (address : ℕ) (placement : Placement) (world : World) (object place : ℕ) → IsWordOf heap address placement world object (2 + place) → place < length (object_at world.graph object).slots → get_or heap.words.items address 0 ≡ name_address placement (get_or (object_at world.graph object).slots place None)
 slot_word heap address placement world object place at within =
-    ap (λ (k : ℕ). get_or heap.words.items k 0) at.found ∙ slot_at heap.types.now heap.places heap.words.items heap.bays placement world at.shown object place at.in_graph within
+    ap (λ (k : ℕ). get_or heap.words.items k 0) at.address_is ∙ slot_at heap.types.now heap.places heap.words.items heap.bays placement world at.shown object place at.in_graph within
 
 -- the word of a number holds it
 pub number_word : (heap : Heap) (address : ℕ) (placement : Placement) (world : World) (object place : ℕ) → IsWordOf heap address placement world object (2 + length (object_at world.graph object).slots + place) → place < length (object_at world.graph object).numbers → get_or heap.words.items address 0 ≡ get_or (object_at world.graph object).numbers place 0
 number_word heap address placement world object place at within =
-    ap (λ (k : ℕ). get_or heap.words.items k 0) at.found ∙ number_at heap.types.now heap.places heap.words.items heap.bays placement world at.shown object place at.in_graph within
+    ap (λ (k : ℕ). get_or heap.words.items k 0) at.address_is ∙ number_at heap.types.now heap.places heap.words.items heap.bays placement world at.shown object place at.in_graph within
 
 -- the heap shows the world in which a slot names something else, once that one's address is stored
-pub slot_stored : (old new : Heap) (address : ℕ) (placement : Placement) (world : World) (object place word : ℕ) (name : Option ℕ) → IsWordOf old address placement world object (2 + place) → place < length (object_at world.graph object).slots → word ≡ address_of placement name → IfSome name (λ number. number < length world.graph) → Stays old new → new.words.items ≡ set old.words.items address word → new.bays ≡ old.bays → ShowsBy new placement (with_slot world object place name)
+pub slot_stored : (old new : Heap) (address : ℕ) (placement : Placement) (world : World) (object place word : ℕ) (name : Option ℕ) → IsWordOf old address placement world object (2 + place) → place < length (object_at world.graph object).slots → word ≡ name_address placement name → IfSome name (λ number. number < length world.graph) → Stays old new → new.words.items ≡ set old.words.items address word → new.bays ≡ old.bays → ShowsBy new placement (with_slot world object place name)
 slot_stored old new address placement world object place word name at within word_is there stays words bays =
-    rw (stays.types, stays.places, words, bays, at.found, word_is) (shows_slot old.types.now old.places old.words.items old.bays placement world at.shown object place name at.in_graph within there)
+    rw (stays.types, stays.places, words, bays, at.address_is, word_is) (shows_slot old.types.now old.places old.words.items old.bays placement world at.shown object place name at.in_graph within there)
 
 -- and in which a number is another one, once that one is stored
 pub number_stored : (old new : Heap) (address : ℕ) (placement : Placement) (world : World) (object place v : ℕ) → IsWordOf old address placement world object (2 + length (object_at world.graph object).slots + place) → place < length (object_at world.graph object).numbers → Stays old new → new.words.items ≡ set old.words.items address v → new.bays ≡ old.bays → ShowsBy new placement (with_number world object place v)
 number_stored old new address placement world object place v at within stays words bays =
-    rw (stays.types, stays.places, words, bays, at.found) (shows_number old.types.now old.places old.words.items old.bays placement world at.shown object place v at.in_graph within)
-
--- what a swap of a number answers, by the number that stands there
-abbrev pub swapped : World → ℕ → ℕ → ℕ → ℕ → ℕ → Answer
-swapped world number place expected replacement found =
-    if found == expected then record { world = with_number world number place replacement; reply = Yes } else keeps world (Found found)
+    rw (stays.types, stays.places, words, bays, at.address_is) (shows_number old.types.now old.places old.words.items old.bays placement world at.shown object place v at.in_graph within)
 
 -- another number than the expected one
-pub not_swapped : (world : World) (number place expected replacement found : ℕ) → (found ≡ expected → ⊥) → swapped world number place expected replacement found ≡ keeps world (Found found)
-not_swapped world number place expected replacement found differs =
-    ap (λ (test : Bool). if test then record { world = with_number world number place replacement; reply = Yes } else keeps world (Found found)) (ne_eqb found expected differs)
+pub not_swapped : (world : World) (number place expected replacement there : ℕ) → (there ≡ expected → ⊥)
+    → swaps world number place expected replacement there ≡ keeps world (Found there)
+not_swapped world number place expected replacement there differs = rw (ne_eqb there expected differs) refl
 
 -- the expected number
-pub is_swapped : (world : World) (number place expected replacement found : ℕ) → found ≡ expected → swapped world number place expected replacement found ≡ record { world = with_number world number place replacement; reply = Yes }
-is_swapped world number place expected replacement found same =
-    ap (λ (test : Bool). if test then record { world = with_number world number place replacement; reply = Yes } else keeps world (Found found)) (eq-eqb found expected same)
+pub is_swapped : (world : World) (number place expected replacement there : ℕ) → there ≡ expected
+    → swaps world number place expected replacement there ≡ record { world = with_number world number place replacement; reply = Yes }
+is_swapped world number place expected replacement there same = rw (eq-eqb there expected same) refl
 
 -- a New is Full where the half has no room left, and else makes the object
 pub new_full : (types : List Shape) (nursery : ℕ) (world : World) (t into ty : ℕ) → nursery < made_words world.graph t + size_of (shape_at types ty) → effect types world t (has_room types nursery world t (New into (record { 0 = ty }))) (New into (record { 0 = ty })) ≡ keeps world Full

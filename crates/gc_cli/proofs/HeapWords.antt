@@ -8,7 +8,7 @@ use Rattle.gc_layout.specs.declared.shape.Shape.{Shape}
 use Rattle.gc_layout.specs.Shape.{size_of}
 use Rattle.gc_layout.specs.Head.{head_word}
 use Rattle.gc_model.specs.Graph.{Object, Graph, common_object, object_at, object_size, made_words, fresh_object, is_made_by, is_mutator}
-use Rattle.gc_cli.specs.Heap.{Placement, address_of, object_words, head_of}
+use Rattle.gc_cli.specs.Heap.{Placement, name_address, object_words, head_of}
 
 -- a write past the first list is a write to the second
 set-append-add : {X : Type 0} (xs ys : List X) (n : ℕ) (y : X) → set (xs ++ ys) (length xs + n) y ≡ xs ++ set ys n y
@@ -25,36 +25,36 @@ pub header_read : (placement : Placement) (object : Object) → get_or (object_w
 header_read placement object = refl
 
 -- a slot is a word of its object
-pub slot_read : (placement : Placement) (object : Object) (place : ℕ) → place < length object.slots → get_or (object_words placement object) (2 + place) 0 ≡ address_of placement (get_or object.slots place None)
+pub slot_read : (placement : Placement) (object : Object) (place : ℕ) → place < length object.slots → get_or (object_words placement object) (2 + place) 0 ≡ name_address placement (get_or object.slots place None)
 slot_read placement object place inside =
-    let slots = map (address_of placement) object.slots in
+    let slots = map (name_address placement) object.slots in
     let long : place < length slots = rw length-map inside in
     let two : 2 + place ≡ suc (suc place) = omega arith in
-    rw two (get_or_append_left slots object.numbers 0 place long ∙ get_or-map (address_of placement) object.slots place None 0 inside)
+    rw two (get_or_append_left slots object.numbers 0 place long ∙ get_or-map (name_address placement) object.slots place None 0 inside)
 
 -- a write to that word writes the slot
-pub slot_write : (placement : Placement) (object : Object) (place : ℕ) (name : Option ℕ) → place < length object.slots → object_words placement (record object { slots = set object.slots place name }) ≡ set (object_words placement object) (2 + place) (address_of placement name)
+pub slot_write : (placement : Placement) (object : Object) (place : ℕ) (name : Option ℕ) → place < length object.slots → object_words placement (record object { slots = set object.slots place name }) ≡ set (object_words placement object) (2 + place) (name_address placement name)
 slot_write placement object place name inside =
-    let slots = map (address_of placement) object.slots in
+    let slots = map (name_address placement) object.slots in
     let long : place < length slots = rw length-map inside in
-    let whole : map (address_of placement) (set object.slots place name) ++ object.numbers ≡ set (slots ++ object.numbers) place (address_of placement name) =
-    ap (λ (xs : List ℕ). xs ++ object.numbers) (map-set (address_of placement) object.slots place name) ∙ sym (set-append_left slots object.numbers place (address_of placement name) long) in
+    let whole : map (name_address placement) (set object.slots place name) ++ object.numbers ≡ set (slots ++ object.numbers) place (name_address placement name) =
+    ap (λ (xs : List ℕ). xs ++ object.numbers) (map-set (name_address placement) object.slots place name) ∙ sym (set-append_left slots object.numbers place (name_address placement name) long) in
     let two : 2 + place ≡ suc (suc place) = omega arith in
     rw two (ap (λ (xs : List ℕ). head_word (head_of object.ty object.maker) ∷ 0 ∷ xs) whole)
 
 -- a number is a word of its object
 pub number_read : (placement : Placement) (object : Object) (place : ℕ) → get_or (object_words placement object) (2 + length object.slots + place) 0 ≡ get_or object.numbers place 0
 number_read placement object place =
-    let slots = map (address_of placement) object.slots in
-    let long : length slots ≡ length object.slots = length-map object.slots (address_of placement) in
+    let slots = map (name_address placement) object.slots in
+    let long : length slots ≡ length object.slots = length-map object.slots (name_address placement) in
     let same : 2 + length object.slots + place ≡ suc (suc (length slots + place)) = omega arith in
     rw same (get_or-append-add slots object.numbers place 0)
 
 -- a write to that word writes the number
 pub number_write : (placement : Placement) (object : Object) (place v : ℕ) → object_words placement (record object { numbers = set object.numbers place v }) ≡ set (object_words placement object) (2 + length object.slots + place) v
 number_write placement object place v =
-    let slots = map (address_of placement) object.slots in
-    let long : length slots ≡ length object.slots = length-map object.slots (address_of placement) in
+    let slots = map (name_address placement) object.slots in
+    let long : length slots ≡ length object.slots = length-map object.slots (name_address placement) in
     let same : 2 + length object.slots + place ≡ suc (suc (length slots + place)) = omega arith in
     rw same (ap (λ (xs : List ℕ). head_word (head_of object.ty object.maker) ∷ 0 ∷ xs) (sym (set-append-add slots object.numbers place v)))
 
@@ -67,14 +67,14 @@ get_or-replicate_same n i x =
     ]
 
 -- so many nothings have so many zeros as addresses
-nothing_addresses : (placement : Placement) (n : ℕ) → map (address_of placement) (replicate n None) ≡ replicate n 0
+nothing_addresses : (placement : Placement) (n : ℕ) → map (name_address placement) (replicate n None) ≡ replicate n 0
 nothing_addresses placement zero = refl
 nothing_addresses placement (suc n) = ap (λ (xs : List ℕ). 0 ∷ xs) (nothing_addresses placement n)
 
 -- behind its header a fresh object's words are all 0
 pub fresh_words : (placement : Placement) (ty : ℕ) (maker : Option ℕ) (shape : Shape) → object_words placement (fresh_object ty maker shape) ≡ head_word (head_of ty maker) ∷ replicate (1 + shape.slots + shape.numbers) 0
 fresh_words placement ty maker shape =
-    let slots : map (address_of placement) (replicate shape.slots None) ≡ replicate shape.slots 0 = nothing_addresses placement shape.slots in
+    let slots : map (name_address placement) (replicate shape.slots None) ≡ replicate shape.slots 0 = nothing_addresses placement shape.slots in
     let more : 1 + shape.slots + shape.numbers ≡ suc (shape.slots + shape.numbers) = omega arith in
     rw (more, slots) (ap (λ (xs : List ℕ). head_word (head_of ty maker) ∷ 0 ∷ xs) (replicate-append-replicate shape.slots shape.numbers 0))
 

@@ -6,15 +6,17 @@ use Rattle.std.proofs.lemmas.List.Sums.{fold-append}
 use Rattle.gc_layout.specs.declared.shape.Shape.{Shape}
 use Rattle.gc_model.specs.declared.call.Line.{Line}
 use Rattle.gc_model.specs.declared.reply.Reply.{Reply}
-use Rattle.gc_model.proofs.Uncollected.{uncollected-legal, uncollected-fits, uncollected-in_order, uncollected-replies, ends-fit, ends-built}
+use Rattle.gc_model.proofs.Interim.Uncollected.{uncollected-legal, uncollected-fits, uncollected-in_order, uncollected-replies}
+use Rattle.gc_model.proofs.Scripts.{ends-fit, ends-built}
 use Rattle.gc_model.specs.declared.call.Call.TheVariants.{End}
 use Rattle.gc_model.specs.History.{History, replies_by_line, ends_of}
-use Rattle.gc_model.specs.Interim.{IsBuilt, answer_to, history_of, replies_of, world_after_lines}
+use Rattle.gc_model.specs.Built.{IsBuilt}
+use Rattle.gc_model.specs.Interim.{answer_to, history_of, replies_of, world_after_lines}
 use Rattle.gc_model.specs.World.{World, first_world}
 use Rattle.gc_script.specs.Script.{Script, IsFitLine, number_of_line}
 use Rattle.gc_cli.specs.declared.opts.Opts.{Opts}
 use Rattle.gc_cli.specs.declared.heap.Heap.{Heap}
-use Rattle.gc_cli.specs.Heap.{Gives, ShowsWorld}
+use Rattle.gc_cli.specs.Heap.{IsAnswered, ShowsWorld}
 use Rattle.gc_cli.specs.Played.{IsHistoryOf, heap_for}
 use Rattle.gc_cli.specs.Text.{reply_line, lines_text}
 
@@ -76,10 +78,10 @@ uncollected-played opts script replies some pages fit built is =
     )
 
 -- an answer by the same types and the same half is the same
-pub gives-same : (heap : Heap) (reply : Reply) (types old_types : List Shape) (nursery old_nursery : ℕ) (world : World) (line : Line) → types ≡ old_types → nursery ≡ old_nursery → Gives heap reply (answer_to types nursery world line) → Gives heap reply (answer_to old_types old_nursery world line)
-gives-same heap reply types old_types nursery old_nursery world line same half given =
-    subst (λ (n : ℕ). Gives heap reply (answer_to old_types n world line)) half
-    (subst (λ (shapes : List Shape). Gives heap reply (answer_to shapes nursery world line)) same given)
+pub answered-alike : (heap : Heap) (reply : Reply) (types old_types : List Shape) (nursery old_nursery : ℕ) (world : World) (line : Line) → types ≡ old_types → nursery ≡ old_nursery → IsAnswered heap reply (answer_to types nursery world line) → IsAnswered heap reply (answer_to old_types old_nursery world line)
+answered-alike heap reply types old_types nursery old_nursery world line same half given =
+    subst (λ (n : ℕ). IsAnswered heap reply (answer_to old_types n world line)) half
+    (subst (λ (shapes : List Shape). IsAnswered heap reply (answer_to shapes nursery world line)) same given)
 
 -- the heap that shows the world after the Ends shows that after the lines and the Ends
 pub shows-ends : (heap : Heap) (types old_types : List Shape) (nursery old_nursery : ℕ) (world : World) (lines : List Line) (count mutators : ℕ) → types ≡ old_types → nursery ≡ old_nursery → count ≡ mutators → ShowsWorld heap (world_after_lines types nursery (world_after_lines old_types old_nursery world lines) (ends_of count)) → ShowsWorld heap (world_after_lines old_types old_nursery world (lines ++ ends_of mutators))

@@ -1,6 +1,6 @@
 -- How the words of the heap show a world, by an address for each object. Nothing is collected yet: each mutator's
 -- objects stand in its half 0, as far as that is used, and the common object at the start of page 0 of mutator 0.
-use Rattle.std.specs.Prelude.{◌≡◌, ℕ, ◌+◌, ◌<◌, ◌≤◌, List, ◌∷◌, ◌++◌, length, map, replicate, slice_index, slice_index_or, All, Option, None, Some, Bool, true, false}
+use Rattle.std.specs.Prelude.{◌≡◌, ℕ, ◌+◌, ◌<◌, ◌≤◌, List, ◌∷◌, ◌++◌, length, map, replicate, slice_index, slice_index_or, All, Option, None, Some, Ok, Bool, true, false}
 use Rattle.gc_layout.specs.declared.head.Head.{Head}
 use Rattle.gc_layout.specs.declared.places.Part.TheVariants.{Half, Page}
 use Rattle.gc_layout.specs.declared.shape.Shape.{Shape}
@@ -9,10 +9,9 @@ use Rattle.gc_layout.specs.Places.{Layout, IsWithinLimits, word_count}
 use Rattle.gc_layout.specs.Places as places
 use Rattle.gc_layout.specs.Types.{AreTypes}
 use Rattle.gc_model.specs.declared.reply.Reply.{Reply}
-use Rattle.gc_model.specs.Answer.{Answer, shape_at}
+use Rattle.gc_model.specs.Answer.{Answer, number_owner, shape_at, slot_owner}
 use Rattle.gc_model.specs.Graph.{Object, object_at, object_size, made_words}
 use Rattle.gc_model.specs.Laws.{IsSound}
-use Rattle.gc_model.specs.Plain.{at_slot, at_number}
 use Rattle.gc_model.specs.World.{World, named_by, is_blocked}
 use Rattle.gc_cli.specs.declared.heap.Bay.{Bay}
 use Rattle.gc_cli.specs.declared.heap.Heap.{Heap}
@@ -36,14 +35,14 @@ abbrev pub Placement : Type 0
 Placement = List ℕ
 
 -- the address of what is named; 0 is nothing
-abbrev pub address_of : Placement → Option ℕ → ℕ
-address_of placement None = 0
-address_of placement (Some number) = slice_index placement number
+abbrev pub name_address : Placement → Option ℕ → ℕ
+name_address placement None = 0
+name_address placement (Some number) = slice_index placement number
 
 -- the words of an object: its header, its forwarding word, the addresses of what its slots name, and its numbers
 abbrev pub object_words : Placement → Object → List ℕ
 object_words placement object =
-    head_word (head_of object.ty object.maker) ∷ 0 ∷ map (address_of placement) object.slots ++ object.numbers
+    head_word (head_of object.ty object.maker) ∷ 0 ∷ map (name_address placement) object.slots ++ object.numbers
 
 -- words stand one behind another from an address on
 abbrev pub StandAt : List ℕ → ℕ → List ℕ → Type 0
@@ -95,7 +94,7 @@ pub record Shows (types : List Shape) (layout : Layout) (words : List ℕ) (bays
   pub apart : (i j k l : ℕ) → i < length world.graph → j < length world.graph → k < object_size (object_at world.graph i) → l < object_size (object_at world.graph j) → slice_index placement i + k ≡ slice_index placement j + l → i ≡ j
   pub free : (t k : ℕ) → t < layout.mutators → (bay_at bays t).used ≤ k → k < layout.nursery → slice_index words (bump_start layout t + k) ≡ 0
   pub used : (t : ℕ) → t < layout.mutators → ((bay_at bays t).used ≡ made_words world.graph t) × ((bay_at bays t).used ≤ layout.nursery)
-  pub held : (t reg : ℕ) → t < layout.mutators → slice_index (bay_at bays t).registers reg ≡ address_of placement (named_by world t reg)
+  pub registered : (t reg : ℕ) → t < layout.mutators → slice_index (bay_at bays t).registers reg ≡ name_address placement (named_by world t reg)
   pub blocked : (t : ℕ) → t < layout.mutators → (bay_at bays t).blocked ≡ is_blocked world t
 
 -- the heap shows the world by the placement
@@ -112,7 +111,7 @@ pub record Stays (old new : Heap) : Type 0 where
   pub places : new.places ≡ old.places
 
 -- the reply is that of an answer, and the heap shows its world
-pub record Gives (heap : Heap) (reply : Reply) (answer : Answer) : Type 0 where
+pub record IsAnswered (heap : Heap) (reply : Reply) (answer : Answer) : Type 0 where
   pub reply_is : answer.reply ≡ reply
   pub shown : ShowsWorld heap answer.world
 
@@ -121,16 +120,16 @@ pub record IsWordOf (heap : Heap) (address : ℕ) (placement : Placement) (world
   pub shown : ShowsBy heap placement world
   pub in_graph : object < length world.graph
   pub inside : behind < object_size (object_at world.graph object)
-  pub found : address ≡ slice_index placement object + behind
+  pub address_is : address ≡ slice_index placement object + behind
 
--- a word of the object that a register names, in its slots; a call on that slot goes on
+-- a word of the object that a register names, in its slots: the object on which a call on that slot works
 pub record IsSlot (heap : Heap) (address : ℕ) (placement : Placement) (world : World) (object t base place : ℕ) : Type 0 where
   pub word : IsWordOf heap address placement world object (2 + place)
   pub within : place < length (object_at world.graph object).slots
-  pub goes_on : (next : ℕ → Answer) → at_slot world t base place next ≡ next object
+  pub owner : slot_owner world t base place ≡ Ok object
 
--- a word of the object that a register names, in its numbers; a call on that number goes on
+-- a word of the object that a register names, in its numbers: the object on which a call on that number works
 pub record IsNumber (heap : Heap) (address : ℕ) (placement : Placement) (world : World) (object t base place : ℕ) : Type 0 where
   pub word : IsWordOf heap address placement world object (2 + length (object_at world.graph object).slots + place)
   pub within : place < length (object_at world.graph object).numbers
-  pub goes_on : (next : ℕ → Answer) → at_number world t base place next ≡ next object
+  pub owner : number_owner world t base place ≡ Ok object

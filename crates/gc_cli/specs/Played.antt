@@ -1,7 +1,8 @@
 -- What a run of the program read, played and printed.
 use Rattle.std.specs.Prelude.{◌≡◌, ℕ, ◌<◌, ◌≤◌, List, [], ◌++◌, length, Option, IfSome, false}
 use Rattle.gc_io.specs.Streams.{GivesUp, Appends, AppendsPrefix}
-use Rattle.gc_model.specs.History.{Configuration, History, IsLegal, FitsScript, lines_in, ends_of}
+use Rattle.gc_model.specs.History.{Configuration, History, FitsScript, lines_in, ends_of}
+use Rattle.gc_model.specs.Legal.{IsLegal}
 use Rattle.gc_script.specs.Grammar.{IsScript, IsFirstFault}
 use Rattle.gc_script.specs.Script.{Script}
 use Rattle.gc_script.specs.Text.{most_bytes}

@@ -1,12 +1,12 @@
-ghost use Rattle.std.specs.Prelude.{◌≡◌, ◌<◌, ℕ, Bool, length, slice_index, slice_set, IfOk};
+ghost use Rattle.std.specs.Prelude.{◌≡◌, ◌<◌, ℕ, length, slice_index, slice_set, IfOk};
 ghost use Rattle.gc_layout.specs.Head.{head_word};
-ghost use Rattle.gc_model.specs.Answer.{IsFit, Suits, answer, effect, shape_at};
+ghost use Rattle.gc_model.specs.Answer.{IsFit, Suits, effect, shape_at};
 ghost use Rattle.gc_model.specs.Graph.{object_at};
-ghost use Rattle.gc_model.specs.Interim.{IsBuilt, answer_to, has_room};
-ghost use Rattle.gc_model.specs.Plain.{unless_refused};
+ghost use Rattle.gc_model.specs.Built.{IsBuilt};
+ghost use Rattle.gc_model.specs.Interim.{answer_to, has_room};
 ghost use Rattle.gc_model.specs.World.{World, first_world};
 ghost use Rattle.gc_model.specs.declared.call.Call.TheVariants.{New};
-ghost use Rattle.gc_cli.specs.Heap.{Placement, ShowsBy, ShowsWorld, Stays, Gives, IsWordOf, unseen_head};
+ghost use Rattle.gc_cli.specs.Heap.{Placement, ShowsBy, ShowsWorld, Stays, IsAnswered, IsWordOf, unseen_head};
 
 mod fields;
 mod registers;
@@ -82,27 +82,11 @@ impl<'a> Heap<'a> {
         requires built { IsBuilt line.now.call }
         ensures stays { Stays self.old self.new }
         ensures answered { (world : World) → ShowsWorld self.old world
-            → Gives self.new result (answer_to self.old.types.now self.old.places.nursery world line.now) }
+            → IsAnswered self.new result (answer_to self.old.types.now self.old.places.nursery world line.now) }
     {
-        match self.refusal(line.mutator, &line.call) {
+        match line.call.refusal(self.is_blocked(line.mutator)) {
             Some(refusal) => refusal,
             None => self.make_call(line.mutator, &line.call),
-        }
-    }
-
-    /// The refusal for being blocked, or for not being blocked.
-    fn refusal(&self, t: u8, call: &Call) -> Option<Reply>
-        requires shown { (world : World) × ShowsWorld self.now world }
-        requires mutator { t < self.now.places.mutators }
-        ensures { (placement : Placement) (world : World) (room : Bool) → ShowsBy self.now placement world
-            → answer self.now.types.now world t call.now room
-            ≡ unless_refused world result (effect self.now.types.now world t room call.now) }
-    {
-        match (self.is_blocked(t), call) {
-            (true, Call::Unblock | Call::End) => None,
-            (true, _) => Some(Reply::Blocked),
-            (false, Call::Unblock) => Some(Reply::NotBlocked),
-            (false, _) => None,
         }
     }
 
@@ -114,7 +98,7 @@ impl<'a> Heap<'a> {
         requires built { IsBuilt call.now }
         ensures stays { Stays self.old self.new }
         ensures answered { (placement : Placement) (world : World) → ShowsBy self.old placement world
-            → Gives self.new result (effect self.old.types.now world t
+            → IsAnswered self.new result (effect self.old.types.now world t
             (has_room self.old.types.now self.old.places.nursery world t call.now) call.now) }
     {
         match *call {
@@ -154,7 +138,7 @@ impl<'a> Heap<'a> {
         requires known { ty.0 < length self.old.types.now }
         ensures stays { Stays self.old self.new }
         ensures answered { (placement : Placement) (world : World) → ShowsBy self.old placement world
-            → Gives self.new result (effect self.old.types.now world t
+            → IsAnswered self.new result (effect self.old.types.now world t
             (has_room self.old.types.now self.old.places.nursery world t (New into ty)) (New into ty)) }
     {
         let size = self.types.shape(ty).unwrap().size() as usize;

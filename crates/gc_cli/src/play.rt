@@ -3,7 +3,7 @@ ghost use Rattle.gc_model.specs.History.{History, replies_by_line, ends_of};
 ghost use Rattle.gc_model.specs.Interim.{answer_to, replies_of, world_after_lines};
 ghost use Rattle.gc_model.specs.World.{World};
 ghost use Rattle.gc_model.specs.declared.call.Line.{Line as CallLine};
-ghost use Rattle.gc_cli.specs.Heap.{ShowsWorld, Stays, Gives};
+ghost use Rattle.gc_cli.specs.Heap.{ShowsWorld, Stays, IsAnswered};
 ghost use Rattle.gc_cli.specs.Played.{IsHistoryOf, IsWithinLimits};
 
 use crate::heap::Heap;
@@ -61,7 +61,7 @@ fn play_line(heap: &mut Heap, script: &Script, place: usize) -> Reply
     ensures stays { Stays heap.old heap.new }
     ensures answered { (world : World) (line : CallLine) → ShowsWorld heap.old world
         → slice_get script.now.lines place ≡ Some line
-        → Gives heap.new result (answer_to heap.old.types.now heap.old.places.nursery world line) }
+        → IsAnswered heap.new result (answer_to heap.old.types.now heap.old.places.nursery world line) }
 {
     // Taken apart, since the prover has to be shown the type of the call here.
     let Line { mutator, call } = script.line(place).unwrap();

@@ -1,7 +1,13 @@
-pub mod Halves
-pub mod Kept
+pub mod EveryStep
+pub mod Histories
+pub mod Interim
+pub mod Lists
+pub mod Objects
+pub mod Reached
 pub mod Rounds
+pub mod Scripts
 pub mod Sound
+pub mod Steps
 pub mod Sums
-pub mod Uncollected
+pub mod Typed
 pub mod Worklist

@@ -11,9 +11,10 @@ use Rattle.gc_model.specs.declared.call.Line.{Line}
 use Rattle.gc_model.specs.declared.entry.Entry.TheVariants.{Made, Run}
 use Rattle.gc_model.specs.declared.entry.RunReport.TheVariants as report
 use Rattle.gc_model.specs.declared.reply.Reply.{Reply}
-use Rattle.gc_model.specs.declared.reply.Reply.TheVariants.{Done, Full, Number, Yes, No, Found, Nil, NilBase, Range, Blocked, NotBlocked}
-use Rattle.gc_model.specs.History.{Configuration, IsLegal, world_after}
-use Rattle.gc_model.specs.Interim.{replies_of}
+use Rattle.gc_model.specs.declared.reply.Reply.TheVariants.{Done, Number, Yes, No, Found, Nil, NilBase, Range, Blocked, NotBlocked}
+use Rattle.gc_model.specs.Answer.{answer}
+use Rattle.gc_model.specs.History.{Configuration, world_after}
+use Rattle.gc_model.specs.Legal.{IsLegal}
 use Rattle.gc_model.specs.Reach.{live, own_words}
 use Rattle.gc_model.specs.World.{World, first_world}
 
@@ -31,27 +32,29 @@ pair = record { 0 = 2 }
 abbrev pub line_of : ℕ → Call → Line
 line_of mutator call = record { mutator = mutator; call = call }
 
--- the replies to lines of two mutators, on a heap with halves of 4096 words
-abbrev pub replies_to : List Line → List Reply
-replies_to lines = replies_of sample_types 4096 (first_world 2) lines
+-- the replies to lines from a world on, where there is room for each new object
+abbrev pub replies_from : World → List Line → List Reply
+replies_from world [] = []
+replies_from world (line ∷ lines) =
+    let next = answer sample_types world line.mutator line.call true in next.reply ∷ replies_from next.world lines
 
--- the replies to the calls of one mutator, on a heap with halves of so many words
-abbrev pub replies_within : ℕ → List Call → List Reply
-replies_within nursery calls = replies_of sample_types nursery (first_world 1) (map (line_of 0) calls)
+-- the replies to lines of two mutators
+abbrev pub replies_to : List Line → List Reply
+replies_to lines = replies_from (first_world 2) lines
 
 -- the replies to the calls of one mutator
 abbrev pub replies_alone : List Call → List Reply
-replies_alone calls = replies_within 4096 calls
+replies_alone calls = replies_from (first_world 1) (map (line_of 0) calls)
 
 -- a number that was set is the number that is asked for
 pub a_set_number_is_asked :
     replies_alone (New 0 box ∷ Set 0 0 42 ∷ Ask 0 0 ∷ []) ≡ Done ∷ Done ∷ Number 42 ∷ []
 a_set_number_is_asked = refl
 
--- a number field holds the largest number of 64 bits
-pub the_largest_number_is_kept :
+-- the largest number of 64 bits can be set
+pub the_largest_number_fits :
     replies_alone (New 0 box ∷ Set 0 0 18446744073709551615 ∷ Ask 0 0 ∷ []) ≡ Done ∷ Done ∷ Number 18446744073709551615 ∷ []
-the_largest_number_is_kept = refl
+the_largest_number_fits = refl
 
 -- a register that names nothing is refused before the place is looked at
 pub nothing_to_get_from :
@@ -100,19 +103,10 @@ copies_are_the_same = refl
 
 -- another mutator takes what was shared, in the place where it was shared
 pub a_shared_object_is_taken :
-    replies_to (line_of 0 (New 0 box) ∷ line_of 0 (Set 0 0 9) ∷ line_of 0 (Share 3 0) ∷ line_of 1 (Take 0 3) ∷ line_of 1 (Ask 0 0) ∷ line_of 1 (Take 1 4) ∷ line_of 1 (Await 1 3) ∷ line_of 1 (Same 0 1) ∷ [])
+    replies_to (line_of 0 (New 0 box) ∷ line_of 0 (Set 0 0 9) ∷ line_of 0 (Share 3 0) ∷ line_of 1 (Take 0 3) ∷ line_of 1 (Ask 0 0)
+    ∷ line_of 1 (Take 1 4) ∷ line_of 1 (Await 1 3) ∷ line_of 1 (Same 0 1) ∷ [])
     ≡ Done ∷ Done ∷ Done ∷ Done ∷ Number 9 ∷ Nil ∷ Done ∷ Yes ∷ []
 a_shared_object_is_taken = refl
-
--- a half of 64 words holds twenty-one boxes of 3 words
-pub twenty_one_boxes_fit :
-    replies_within 64 (replicate 22 (New 0 box)) ≡ replicate 21 Done ++ Full ∷ []
-twenty_one_boxes_fit = refl
-
--- each mutator has a half of its own
-pub halves_are_apart :
-    replies_of sample_types 4 (first_world 2) (line_of 0 (New 0 box) ∷ line_of 0 (New 0 box) ∷ line_of 1 (New 0 box) ∷ []) ≡ Done ∷ Full ∷ Done ∷ []
-halves_are_apart = refl
 
 -- a heap of these types with one mutator
 abbrev pub sample_heap : Configuration
@@ -137,7 +131,8 @@ a_dropped_object_is_not_live = refl
 
 -- two objects that name each other and that nothing else names aren't live
 pub a_dropped_cycle_is_not_live :
-    live (world_after_calls (New 0 pair ∷ New 1 pair ∷ Put 0 0 1 ∷ Put 1 0 0 ∷ ClearReg 0 ∷ ClearReg 1 ∷ [])) ≡ record { objects = 1; words = 18 }
+    live (world_after_calls (New 0 pair ∷ New 1 pair ∷ Put 0 0 1 ∷ Put 1 0 0 ∷ ClearReg 0 ∷ ClearReg 1 ∷ []))
+    ≡ record { objects = 1; words = 18 }
 a_dropped_cycle_is_not_live = refl
 
 -- what a live object names is live, and a blocked mutator's registers count

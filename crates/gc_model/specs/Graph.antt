@@ -10,7 +10,7 @@ pub record Object : Type 0 where
   pub slots : List (Option ℕ)
   pub numbers : List ℕ
 
--- an object's number is its place in the list; objects are never taken away
+-- an object's number is its index in the list; objects are never taken away
 abbrev pub Graph : Type 0
 Graph = List Object
 

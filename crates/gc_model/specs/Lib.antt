@@ -1,11 +1,14 @@
 pub mod Answer
+pub mod Built
 pub mod Examples
 pub mod Graph
 pub mod History
 pub mod Interim
 pub mod Laws
+pub mod Legal
 pub mod Plain
 pub mod Reach
+pub mod Step
 pub mod World
 pub mod Worklist
 pub use Rattle.gc_layout.specs.Shape

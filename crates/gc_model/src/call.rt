@@ -1,4 +1,8 @@
-use crate::Reg;
+//! The calls of a mutator, and the refusal that comes before any call is made.
+ghost use Rattle.std.specs.Prelude.{◌≡◌};
+ghost use Rattle.gc_model.specs.Answer.{blocked_refusal};
+
+use crate::{Reg, Reply};
 use gc_layout::TypeNo;
 
 /// A call of a mutator. Places count the slots, or the number fields, of the object that `base` names;
@@ -79,6 +83,22 @@ pub enum Call {
     Collect,
     /// Ends the mutator.
     End,
+}
+
+impl Call {
+    /// The refusal of this call by a mutator that is `blocked`, or that isn't; None where being blocked doesn't
+    /// stand against it. A blocked mutator may only unblock or end: else Blocked. Only a blocked one may unblock:
+    /// else NotBlocked. It comes before all other refusals.
+    pub fn refusal(&self, blocked: bool) -> Option<Reply>
+        ensures { result ≡ blocked_refusal blocked self.now }
+    {
+        match (blocked, self) {
+            (true, Call::Unblock | Call::End) => None,
+            (true, _) => Some(Reply::Blocked),
+            (false, Call::Unblock) => Some(Reply::NotBlocked),
+            (false, _) => None,
+        }
+    }
 }
 
 /// A line of a script: a mutator's number, and its call.

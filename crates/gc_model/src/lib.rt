@@ -19,7 +19,7 @@ mod world;
 
 pub use call::{Call, Line};
 pub use entry::{Entry, RunKind, RunReport};
-pub use laws::{each_name_is_an_objects, no_object_is_taken_away};
+pub use laws::{each_name_is_an_objects, each_object_is_well_typed, no_object_is_taken_away};
 pub use reg::Reg;
 pub use reply::Reply;
 pub use turns::{CallTurn, Turns};

@@ -1,14 +1,13 @@
 ghost use Rattle.std.specs.Prelude.{◌≡◌, ◌<◌, ◌≤◌, Bool, true, length, replicate, IfOk, OnOk, OnErr};
-ghost use Rattle.gc_model.specs.Answer.{answer, effect, IsFit, Suits};
+ghost use Rattle.gc_model.specs.Answer.{answer, effect, IsFit, IsNew, Suits};
 ghost use Rattle.gc_model.specs.Graph.{fresh_object, object_size};
-ghost use Rattle.gc_model.specs.Interim.{IsNew};
 ghost use Rattle.gc_model.specs.World.{first_world, fresh_mutator};
-ghost use Rattle.gc_model.specs.Plain.{Plain, unless_refused};
+ghost use Rattle.gc_model.specs.Plain.{Plain};
 
 mod fields;
-mod found;
 mod reach;
 mod registers;
+mod worklist;
 
 use crate::{Call, Reg, Reply};
 use gc_layout::{NoMemory, Shape, TypeNo, Types};
@@ -96,13 +95,13 @@ pub struct World {
 }
 
 impl Model for World {
-    ghost use Rattle.gc_model.specs.Plain.{Plain, plain_of, IsKept};
+    ghost use Rattle.gc_model.specs.Plain.{Plain, plain_of, IsWellFormed};
 
     ghost Value = { Plain };
 
     ghost view = { λ w. plain_of w.types.items w.objects.items w.mutators.items };
 
-    ghost invariant = { λ w. IsKept (plain_of w.types.items w.objects.items w.mutators.items) };
+    ghost invariant = { λ w. IsWellFormed (plain_of w.types.items w.objects.items w.mutators.items) };
 }
 
 impl World {
@@ -141,23 +140,9 @@ impl World {
         ensures only_new { OnErr result (IsNew c.now) }
         ensures only_done { OnErr result ((answer self.old.types self.old.world t c.now room).reply ≡ Reply.Done) }
     {
-        match self.refusal(t, c) {
+        match c.refusal(self.is_blocked(t)) {
             Some(refusal) => Ok(refusal),
             None => self.make_call(alloc, t, c, room),
-        }
-    }
-
-    /// The refusal for being blocked, or for not being blocked.
-    fn refusal(&self, t: u8, c: &Call) -> Option<Reply>
-        requires mutator { t < length self.now.world.mutators }
-        ensures { (room : Bool) → answer self.now.types self.now.world t c.now room
-            ≡ unless_refused self.now.world result (effect self.now.types self.now.world t room c.now) }
-    {
-        match (self.mutators[usize::from(t)].blocked, c) {
-            (true, Call::Unblock | Call::End) => None,
-            (true, _) => Some(Reply::Blocked),
-            (false, Call::Unblock) => Some(Reply::NotBlocked),
-            (false, _) => None,
         }
     }
 
@@ -176,15 +161,15 @@ impl World {
         match *c {
             Call::New { into, ty } if room => self.make_object(alloc, t, into, ty),
             Call::New { .. } => Ok(Reply::Full),
-            _ => Ok(self.make_small_call(t, c)),
+            _ => Ok(self.make_other_call(t, c)),
         }
     }
 
     /// Makes a call that makes no object.
-    fn make_small_call(&mut self, t: u8, c: &Call) -> Reply
+    fn make_other_call(&mut self, t: u8, c: &Call) -> Reply
         requires mutator { t < length self.old.world.mutators }
         requires suits { Suits (length self.old.types) c.now }
-        requires small { ¬ IsNew c.now }
+        requires other { ¬ IsNew c.now }
         ensures types { self.new.types ≡ self.old.types }
         ensures made { (room : Bool) → effect self.old.types self.old.world t room c.now
             ≡ record { world = self.new.world; reply = result } }

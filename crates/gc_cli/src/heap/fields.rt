@@ -1,10 +1,9 @@
-ghost use Rattle.std.specs.Prelude.{◌≡◌, ◌<◌, ◌+◌, ℕ, true, length, IfOk, IfErr};
-ghost use Rattle.gc_model.specs.Answer.{Answer, effect, keeps};
+ghost use Rattle.std.specs.Prelude.{◌≡◌, ◌<◌, ◌+◌, ℕ, true, length, Err, IfOk, IfErr};
+ghost use Rattle.gc_model.specs.Answer.{effect, number_owner, slot_owner};
 ghost use Rattle.gc_model.specs.Graph.{object_at};
-ghost use Rattle.gc_model.specs.Plain.{at_slot, at_number};
 ghost use Rattle.gc_model.specs.World.{World};
 ghost use Rattle.gc_model.specs.declared.call.Call.TheVariants.{Get, Put, Ask, Set, SwapIf, Share, Take};
-ghost use Rattle.gc_cli.specs.Heap.{Placement, ShowsBy, ShowsWorld, Stays, Gives, IsWordOf, IsSlot, IsNumber};
+ghost use Rattle.gc_cli.specs.Heap.{Placement, ShowsBy, ShowsWorld, Stays, IsAnswered, IsWordOf, IsSlot, IsNumber};
 
 use crate::heap::Heap;
 use gc_model::{Reg, Reply};
@@ -15,10 +14,10 @@ impl Heap<'_> {
     fn find_slot(&self, t: u8, base: Reg, place: u8) -> Result<usize, Reply>
         requires shown { (world : World) × ShowsWorld self.now world }
         requires mutator { t < self.now.places.mutators }
-        ensures found { IfOk result (λ address. (placement : Placement) (world : World) → ShowsBy self.now placement world
+        ensures address { IfOk result (λ address. (placement : Placement) (world : World) → ShowsBy self.now placement world
             → (object : ℕ) × IsSlot self.now address placement world object t base place) }
-        ensures refused { IfErr result (λ refusal. (placement : Placement) (world : World) (next : ℕ → Answer)
-            → ShowsBy self.now placement world → at_slot world t base place next ≡ keeps world refusal) }
+        ensures refused { IfErr result (λ refusal. (placement : Placement) (world : World) → ShowsBy self.now placement world
+            → slot_owner world t base place ≡ Err refusal) }
     {
         let address = self.register(t, base) as usize;
         if address == 0 {
@@ -36,10 +35,10 @@ impl Heap<'_> {
     fn find_number(&self, t: u8, base: Reg, place: u8) -> Result<usize, Reply>
         requires shown { (world : World) × ShowsWorld self.now world }
         requires mutator { t < self.now.places.mutators }
-        ensures found { IfOk result (λ address. (placement : Placement) (world : World) → ShowsBy self.now placement world
+        ensures address { IfOk result (λ address. (placement : Placement) (world : World) → ShowsBy self.now placement world
             → (object : ℕ) × IsNumber self.now address placement world object t base place) }
-        ensures refused { IfErr result (λ refusal. (placement : Placement) (world : World) (next : ℕ → Answer)
-            → ShowsBy self.now placement world → at_number world t base place next ≡ keeps world refusal) }
+        ensures refused { IfErr result (λ refusal. (placement : Placement) (world : World) → ShowsBy self.now placement world
+            → number_owner world t base place ≡ Err refusal) }
     {
         let address = self.register(t, base) as usize;
         if address == 0 {
@@ -68,7 +67,7 @@ impl Heap<'_> {
         requires mutator { t < self.old.places.mutators }
         ensures stays { Stays self.old self.new }
         ensures answered { (placement : Placement) (world : World) → ShowsBy self.old placement world
-            → Gives self.new result (effect self.old.types.now world t true (Get into base place)) }
+            → IsAnswered self.new result (effect self.old.types.now world t true (Get into base place)) }
     {
         match self.find_slot(t, base, place) {
             Ok(address) => {
@@ -85,12 +84,12 @@ impl Heap<'_> {
         requires mutator { t < self.old.places.mutators }
         ensures stays { Stays self.old self.new }
         ensures answered { (placement : Placement) (world : World) → ShowsBy self.old placement world
-            → Gives self.new result (effect self.old.types.now world t true (Put base place value)) }
+            → IsAnswered self.new result (effect self.old.types.now world t true (Put base place value)) }
     {
         match self.find_slot(t, base, place) {
             Ok(address) => {
-                let held = self.register(t, value);
-                self.store(address, held);
+                let named = self.register(t, value);
+                self.store(address, named);
                 Reply::Done
             }
             Err(refusal) => refusal,
@@ -104,11 +103,11 @@ impl Heap<'_> {
         requires within { place < 16 }
         ensures stays { Stays self.old self.new }
         ensures answered { (placement : Placement) (world : World) → ShowsBy self.old placement world
-            → Gives self.new result (effect self.old.types.now world t true (Share place value)) }
+            → IsAnswered self.new result (effect self.old.types.now world t true (Share place value)) }
     {
         let address = self.common_slot(place);
-        let held = self.register(t, value);
-        self.store(address, held);
+        let named = self.register(t, value);
+        self.store(address, named);
         Reply::Done
     }
 
@@ -119,7 +118,7 @@ impl Heap<'_> {
         requires within { place < 16 }
         ensures stays { Stays self.old self.new }
         ensures answered { (placement : Placement) (world : World) → ShowsBy self.old placement world
-            → Gives self.new result (effect self.old.types.now world t true (Take into place)) }
+            → IsAnswered self.new result (effect self.old.types.now world t true (Take into place)) }
     {
         let slot = self.word(self.common_slot(place));
         self.load(t, into, slot)
@@ -130,7 +129,7 @@ impl Heap<'_> {
         requires shown { (world : World) × ShowsWorld self.now world }
         requires mutator { t < self.now.places.mutators }
         ensures { (placement : Placement) (world : World) → ShowsBy self.now placement world
-            → Gives self.now result (effect self.now.types.now world t true (Ask base place)) }
+            → IsAnswered self.now result (effect self.now.types.now world t true (Ask base place)) }
     {
         match self.find_number(t, base, place) {
             Ok(address) => Reply::Number(self.word(address)),
@@ -144,7 +143,7 @@ impl Heap<'_> {
         requires mutator { t < self.old.places.mutators }
         ensures stays { Stays self.old self.new }
         ensures answered { (placement : Placement) (world : World) → ShowsBy self.old placement world
-            → Gives self.new result (effect self.old.types.now world t true (Set base place number)) }
+            → IsAnswered self.new result (effect self.old.types.now world t true (Set base place number)) }
     {
         match self.find_number(t, base, place) {
             Ok(address) => {
@@ -168,13 +167,13 @@ impl Heap<'_> {
         requires mutator { t < self.old.places.mutators }
         ensures stays { Stays self.old self.new }
         ensures answered { (placement : Placement) (world : World) → ShowsBy self.old placement world
-            → Gives self.new result (effect self.old.types.now world t true (SwapIf base place expected replacement)) }
+            → IsAnswered self.new result (effect self.old.types.now world t true (SwapIf base place expected replacement)) }
     {
         match self.find_number(t, base, place) {
             Ok(address) => {
-                let found = self.word(address);
-                if found != expected {
-                    return Reply::Found(found);
+                let there = self.word(address);
+                if there != expected {
+                    return Reply::Found(there);
                 }
                 self.store(address, replacement);
                 Reply::Yes

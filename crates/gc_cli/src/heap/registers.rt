@@ -2,7 +2,7 @@ ghost use Rattle.std.specs.Prelude.{◌≡◌, ◌<◌, ℕ, Option, true, lengt
 ghost use Rattle.gc_model.specs.Answer.{effect, loads, does};
 ghost use Rattle.gc_model.specs.World.{World, is_blocked, with_register, with_blocked};
 ghost use Rattle.gc_model.specs.declared.call.Call.TheVariants.{Same, CopyReg, ClearReg, End};
-ghost use Rattle.gc_cli.specs.Heap.{Placement, ShowsBy, ShowsWorld, Stays, Gives, address_of, bay_at};
+ghost use Rattle.gc_cli.specs.Heap.{Placement, ShowsBy, ShowsWorld, Stays, IsAnswered, name_address, bay_at};
 
 use crate::heap::{Heap, REGISTERS};
 use gc_model::{Reg, Reply};
@@ -24,8 +24,8 @@ impl Heap<'_> {
         requires mutator { t < self.old.places.mutators }
         ensures stays { Stays self.old self.new }
         ensures words { self.new.words.items ≡ self.old.words.items }
-        ensures held { (placement : Placement) (world : World) (name : Option ℕ) → ShowsBy self.old placement world
-            → address ≡ address_of placement name → IfSome name (λ number. number < length world.graph)
+        ensures named { (placement : Placement) (world : World) (name : Option ℕ) → ShowsBy self.old placement world
+            → address ≡ name_address placement name → IfSome name (λ number. number < length world.graph)
             → ShowsBy self.new placement (with_register world t reg name) }
     {
         let place = usize::from(reg.index());
@@ -47,7 +47,7 @@ impl Heap<'_> {
         requires mutator { t < self.old.places.mutators }
         ensures stays { Stays self.old self.new }
         ensures answered { (placement : Placement) (world : World) → ShowsBy self.old placement world
-            → Gives self.new result (does (with_blocked world t blocked)) }
+            → IsAnswered self.new result (does (with_blocked world t blocked)) }
     {
         self.bays[usize::from(t)].blocked = blocked;
         Reply::Done
@@ -59,7 +59,7 @@ impl Heap<'_> {
         requires mutator { t < self.old.places.mutators }
         ensures stays { Stays self.old self.new }
         ensures answered { (placement : Placement) (world : World) → ShowsBy self.old placement world
-            → Gives self.new result (effect self.old.types.now world t true End) }
+            → IsAnswered self.new result (effect self.old.types.now world t true End) }
     {
         let bay = &mut self.bays[usize::from(t)];
         bay.registers = [0; REGISTERS];
@@ -72,7 +72,7 @@ impl Heap<'_> {
         requires shown { (world : World) × ShowsWorld self.now world }
         requires mutator { t < self.now.places.mutators }
         ensures { (placement : Placement) (world : World) → ShowsBy self.now placement world
-            → Gives self.now result (effect self.now.types.now world t true (Same left right)) }
+            → IsAnswered self.now result (effect self.now.types.now world t true (Same left right)) }
     {
         if self.register(t, left) == self.register(t, right) {
             Reply::Yes
@@ -87,7 +87,7 @@ impl Heap<'_> {
         requires mutator { t < self.old.places.mutators }
         ensures stays { Stays self.old self.new }
         ensures answered { (placement : Placement) (world : World) → ShowsBy self.old placement world
-            → Gives self.new result (effect self.old.types.now world t true (CopyReg into source)) }
+            → IsAnswered self.new result (effect self.old.types.now world t true (CopyReg into source)) }
     {
         let address = self.register(t, source);
         self.set_register(t, into, address);
@@ -100,7 +100,7 @@ impl Heap<'_> {
         requires mutator { t < self.old.places.mutators }
         ensures stays { Stays self.old self.new }
         ensures answered { (placement : Placement) (world : World) → ShowsBy self.old placement world
-            → Gives self.new result (effect self.old.types.now world t true (ClearReg reg)) }
+            → IsAnswered self.new result (effect self.old.types.now world t true (ClearReg reg)) }
     {
         self.set_register(t, reg, 0);
         Reply::Done
@@ -112,8 +112,8 @@ impl Heap<'_> {
         requires mutator { t < self.old.places.mutators }
         ensures stays { Stays self.old self.new }
         ensures loaded { (placement : Placement) (world : World) (name : Option ℕ) → ShowsBy self.old placement world
-            → slot ≡ address_of placement name → IfSome name (λ number. number < length world.graph)
-            → Gives self.new result (loads world t into name) }
+            → slot ≡ name_address placement name → IfSome name (λ number. number < length world.graph)
+            → IsAnswered self.new result (loads world t into name) }
     {
         if slot == 0 {
             return Reply::Nil;

@@ -1,77 +1,16 @@
-ghost use Rattle.std.specs.Prelude.{◌≡◌, ◌<◌, ℕ, None, Some, true, length, slice_index, slice_index_or, IfOk, IfSome};
-ghost use Rattle.gc_model.specs.Answer.{Answer, effect};
+//! The calls on slots and on numbers, of an object that a register names or of the common one. Each first finds the
+//! object that is meant, or its refusal.
+ghost use Rattle.std.specs.Prelude.{◌≡◌, ◌<◌, true, length, IfOk, IfSome};
+ghost use Rattle.gc_model.specs.Answer.{effect, number_owner, slot_owner};
 ghost use Rattle.gc_model.specs.Graph.{object_at};
-ghost use Rattle.gc_model.specs.Plain.{at_number, at_slot, goes_on, with_world};
-ghost use Rattle.gc_model.specs.World.{named_by, with_number, with_slot};
+ghost use Rattle.gc_model.specs.Plain.{with_world};
+ghost use Rattle.gc_model.specs.World.{named_by, number_at, slot_at, with_number, with_slot};
 ghost use Rattle.gc_model.specs.declared.call.Call.TheVariants.{Get, Put, Ask, Set, SwapIf, Take};
 
 use crate::world::World;
 use crate::{Reg, Reply};
 
 impl World {
-    /// The object whose slot is meant. Refused where the base is nothing, or has no such slot.
-    fn slot_owner(&self, t: u8, base: Reg, place: u8) -> Result<usize, Reply>
-        requires { t < length self.now.world.mutators }
-        ensures goes_on { (next : ℕ → Answer)
-            → at_slot self.now.world t base place next ≡ goes_on self.now.world result next }
-        ensures there { IfOk result (λ number. number < length self.now.world.graph) }
-        ensures within { IfOk result (λ number. place < length (object_at self.now.world.graph number).slots) }
-    {
-        let Some(number) = self.named(t, base) else {
-            return Err(Reply::NilBase);
-        };
-        if usize::from(place) >= self.objects[number].slots.len() {
-            return Err(Reply::Range);
-        }
-        Ok(number)
-    }
-
-    /// The object whose number is meant. Refused where the base is nothing, or has no such number.
-    fn number_owner(&self, t: u8, base: Reg, place: u8) -> Result<usize, Reply>
-        requires { t < length self.now.world.mutators }
-        ensures goes_on { (next : ℕ → Answer)
-            → at_number self.now.world t base place next ≡ goes_on self.now.world result next }
-        ensures there { IfOk result (λ number. number < length self.now.world.graph) }
-        ensures within { IfOk result (λ number. place < length (object_at self.now.world.graph number).numbers) }
-    {
-        let Some(number) = self.named(t, base) else {
-            return Err(Reply::NilBase);
-        };
-        if usize::from(place) >= self.objects[number].numbers.len() {
-            return Err(Reply::Range);
-        }
-        Ok(number)
-    }
-
-    /// What a slot of an object names.
-    pub(crate) fn slot(&self, number: usize, place: u8) -> Option<usize>
-        requires there { number < length self.now.world.graph }
-        requires within { place < length (object_at self.now.world.graph number).slots }
-        ensures slot { result ≡ slice_index_or (object_at self.now.world.graph number).slots place None }
-        ensures there { IfSome result (λ named. named < length self.now.world.graph) }
-    {
-        self.objects[number].slots[usize::from(place)]
-    }
-
-    /// Makes a slot of an object name an object, or nothing.
-    pub(crate) fn set_slot(&mut self, number: usize, place: u8, name: Option<usize>)
-        requires there { number < length self.old.world.graph }
-        requires within { place < length (object_at self.old.world.graph number).slots }
-        requires named { IfSome name (λ named. named < length self.old.world.graph) }
-        ensures { self.new ≡ with_world self.old (with_slot self.old.world number place name) }
-    {
-        self.objects[number].slots[usize::from(place)] = name;
-    }
-
-    /// Makes a number of an object another one.
-    fn set_number(&mut self, number: usize, place: u8, value: u64)
-        requires there { number < length self.old.world.graph }
-        requires within { place < length (object_at self.old.world.graph number).numbers }
-        ensures { self.new ≡ with_world self.old (with_number self.old.world number place value) }
-    {
-        self.objects[number].numbers[usize::from(place)] = value;
-    }
-
     /// Loads a slot.
     pub(crate) fn get(&mut self, t: u8, into: Reg, base: Reg, place: u8) -> Reply
         requires { t < length self.old.world.mutators }
@@ -105,15 +44,6 @@ impl World {
         }
     }
 
-    /// A number of an object.
-    fn number(&self, number: usize, place: u8) -> u64
-        requires there { number < length self.now.world.graph }
-        requires within { place < length (object_at self.now.world.graph number).numbers }
-        ensures { result ≡ slice_index (object_at self.now.world.graph number).numbers place }
-    {
-        self.objects[number].numbers[usize::from(place)]
-    }
-
     /// Stores into a slot of the common object.
     pub(crate) fn share(&mut self, t: u8, place: u8, value: Reg)
         requires mutator { t < length self.old.world.mutators }
@@ -131,7 +61,7 @@ impl World {
         requires mutator { t < length self.old.world.mutators }
         requires within { place < 16 }
         ensures types { self.new.types ≡ self.old.types }
-        ensures taken { effect self.old.types self.old.world t true (Take into place)
+        ensures took { effect self.old.types self.old.world t true (Take into place)
             ≡ record { world = self.new.world; reply = result } }
     {
         // The common object is there, and has 16 slots.
@@ -193,5 +123,75 @@ impl World {
             }
             Err(refusal) => refusal,
         }
+    }
+
+    /// The object whose slot is meant. Refused where the base is nothing, or has no such slot.
+    fn slot_owner(&self, t: u8, base: Reg, place: u8) -> Result<usize, Reply>
+        requires { t < length self.now.world.mutators }
+        ensures owner { result ≡ slot_owner self.now.world t base place }
+        ensures there { IfOk result (λ number. number < length self.now.world.graph) }
+        ensures within { IfOk result (λ number. place < length (object_at self.now.world.graph number).slots) }
+    {
+        let Some(number) = self.named(t, base) else {
+            return Err(Reply::NilBase);
+        };
+        if usize::from(place) >= self.objects[number].slots.len() {
+            return Err(Reply::Range);
+        }
+        Ok(number)
+    }
+
+    /// The object whose number is meant. Refused where the base is nothing, or has no such number.
+    fn number_owner(&self, t: u8, base: Reg, place: u8) -> Result<usize, Reply>
+        requires { t < length self.now.world.mutators }
+        ensures owner { result ≡ number_owner self.now.world t base place }
+        ensures there { IfOk result (λ number. number < length self.now.world.graph) }
+        ensures within { IfOk result (λ number. place < length (object_at self.now.world.graph number).numbers) }
+    {
+        let Some(number) = self.named(t, base) else {
+            return Err(Reply::NilBase);
+        };
+        if usize::from(place) >= self.objects[number].numbers.len() {
+            return Err(Reply::Range);
+        }
+        Ok(number)
+    }
+
+    /// What a slot of an object names.
+    pub(crate) fn slot(&self, number: usize, place: u8) -> Option<usize>
+        requires there { number < length self.now.world.graph }
+        requires within { place < length (object_at self.now.world.graph number).slots }
+        ensures slot { result ≡ slot_at self.now.world number place }
+        ensures there { IfSome result (λ named. named < length self.now.world.graph) }
+    {
+        self.objects[number].slots[usize::from(place)]
+    }
+
+    /// Makes a slot of an object name an object, or nothing.
+    pub(crate) fn set_slot(&mut self, number: usize, place: u8, name: Option<usize>)
+        requires there { number < length self.old.world.graph }
+        requires within { place < length (object_at self.old.world.graph number).slots }
+        requires named { IfSome name (λ named. named < length self.old.world.graph) }
+        ensures { self.new ≡ with_world self.old (with_slot self.old.world number place name) }
+    {
+        self.objects[number].slots[usize::from(place)] = name;
+    }
+
+    /// A number of an object.
+    fn number(&self, number: usize, place: u8) -> u64
+        requires there { number < length self.now.world.graph }
+        requires within { place < length (object_at self.now.world.graph number).numbers }
+        ensures { result ≡ number_at self.now.world number place }
+    {
+        self.objects[number].numbers[usize::from(place)]
+    }
+
+    /// Makes a number of an object another one.
+    fn set_number(&mut self, number: usize, place: u8, value: u64)
+        requires there { number < length self.old.world.graph }
+        requires within { place < length (object_at self.old.world.graph number).numbers }
+        ensures { self.new ≡ with_world self.old (with_number self.old.world number place value) }
+    {
+        self.objects[number].numbers[usize::from(place)] = value;
     }
 }

@@ -1,7 +1,7 @@
 ghost use Rattle.std.specs.Prelude.{◌≡◌, ◌<◌, None, true, length, replicate, IfSome};
 ghost use Rattle.gc_model.specs.Answer.{effect, loads};
 ghost use Rattle.gc_model.specs.Plain.{with_world};
-ghost use Rattle.gc_model.specs.World.{named_by, with_blocked, with_mutator, with_register};
+ghost use Rattle.gc_model.specs.World.{is_blocked, named_by, with_blocked, with_mutator, with_register};
 ghost use Rattle.gc_model.specs.declared.call.Call.TheVariants.{Same};
 
 use crate::world::World;
@@ -26,6 +26,14 @@ impl World {
     {
         let mutator = &mut self.mutators[usize::from(t)];
         mutator.registers[usize::from(reg.index())] = name;
+    }
+
+    /// Whether a mutator is blocked.
+    pub(crate) fn is_blocked(&self, t: u8) -> bool
+        requires { t < length self.now.world.mutators }
+        ensures { result ≡ is_blocked self.now.world t }
+    {
+        self.mutators[usize::from(t)].blocked
     }
 
     /// Blocks a mutator, or unblocks it.

@@ -4,7 +4,7 @@ use Rattle.gc_layout.specs.Places.{Layout}
 use Rattle.gc_model.specs.declared.call.Line.{Line}
 use Rattle.gc_model.specs.Interim.{world_after_lines}
 use Rattle.gc_cli.specs.Heap.{ShowsWorld}
-use Rattle.gc_cli.proofs.PlayLemmas.{slice_get-below, world_after-next, replies_of-next, shows-ends, gives-same}
+use Rattle.gc_cli.proofs.PlayLemmas.{slice_get-below, world_after-next, replies_of-next, shows-ends, answered-alike}
 use Rattle.gc_cli.proofs.play.play_lines.Goals as goal
 
 pub play_line-requires-clause-shown : goal.play_line-requires-clause-shown
@@ -15,47 +15,47 @@ end_all-requires-clause-shown c = (_, c.loop-place.invariant.shown c.requires.sh
 
 pub loop-place-preserved : goal.loop-place-preserved
 loop-place-preserved c =
-    let kept = c.loop-place.invariant in
+    let invariant = c.loop-place.invariant in
     let lines = c.args.script.now.lines in
     let types = c.args.heap.now.types.now in
     let nursery = c.args.heap.now.places.nursery in
-    let half = ap (λ (layout : Layout). layout.nursery) kept.stays.places in
+    let half = ap (λ (layout : Layout). layout.nursery) invariant.stays.places in
     let next = slice_get-below lines c.loop-place.place (omega (arith, c.loop-place-test.true, c.count-place-end.ensures.count)) in
     record {
-      stays = record { types = c.play_line.ensures.stays.types ∙ kept.stays.types; places = c.play_line.ensures.stays.places ∙ kept.stays.places };
+      stays = record { types = c.play_line.ensures.stays.types ∙ invariant.stays.types; places = c.play_line.ensures.stays.places ∙ invariant.stays.places };
       shown = λ world shown.
           let before = world_after_lines types nursery world (take c.loop-place.place lines) in
-          let given = gives-same c.play_line.new.heap c.play_line.result c.loop-place.heap.types.now types c.loop-place.heap.places.nursery nursery before next.0 kept.stays.types half (c.play_line.ensures.answered before next.0 (kept.shown world shown) next.1) in
+          let given = answered-alike c.play_line.new.heap c.play_line.result c.loop-place.heap.types.now types c.loop-place.heap.places.nursery nursery before next.0 invariant.stays.types half (c.play_line.ensures.answered before next.0 (invariant.shown world shown) next.1) in
           rw (world_after-next types nursery world lines c.loop-place.place next.0 next.1) given.shown;
       replies = λ world shown.
           let before = world_after_lines types nursery world (take c.loop-place.place lines) in
-          let given = gives-same c.play_line.new.heap c.play_line.result c.loop-place.heap.types.now types c.loop-place.heap.places.nursery nursery before next.0 kept.stays.types half (c.play_line.ensures.answered before next.0 (kept.shown world shown) next.1) in
-          let so_far = kept.replies world shown in
+          let given = answered-alike c.play_line.new.heap c.play_line.result c.loop-place.heap.types.now types c.loop-place.heap.places.nursery nursery before next.0 invariant.stays.types half (c.play_line.ensures.answered before next.0 (invariant.shown world shown) next.1) in
+          let so_far = invariant.replies world shown in
           let one_more = replies_of-next types nursery world lines c.loop-place.place next.0 next.1 in
           let reply = given.reply_is in
           let pushed = c.push_reserved.ensures.items in cc;
-      answered = omega (arith, c.push_reserved.ensures.len, kept.answered);
-      room = omega (arith, c.push_reserved.ensures.capacity, kept.room);
+      answered = omega (arith, c.push_reserved.ensures.len, invariant.answered);
+      room = omega (arith, c.push_reserved.ensures.capacity, invariant.room);
     }
 
 pub returns-clause-shown : goal.returns-clause-shown
 returns-clause-shown c world shown =
-    let kept = c.loop-place.invariant in
+    let invariant = c.loop-place.invariant in
     let lines = c.args.script.now.lines in
     let types = c.args.heap.now.types.now in
     let nursery = c.args.heap.now.places.nursery in
-    let half = ap (λ (layout : Layout). layout.nursery) kept.stays.places in
+    let half = ap (λ (layout : Layout). layout.nursery) invariant.stays.places in
     let past : length lines ≤ c.loop-place.place = omega (arith, c.loop-place-test.false, c.count-place-end.ensures.count) in
     let all : take c.loop-place.place lines ≡ lines = take_all c.loop-place.place lines past in
     let before = world_after_lines types nursery world lines in
-    let here = subst (λ (some : List Line). ShowsWorld c.loop-place.heap (world_after_lines types nursery world some)) all (kept.shown world shown) in
+    let here = subst (λ (some : List Line). ShowsWorld c.loop-place.heap (world_after_lines types nursery world some)) all (invariant.shown world shown) in
     let ended = c.end_all.ensures.ended before here in
-    shows-ends c.end_all.new.heap c.loop-place.heap.types.now types c.loop-place.heap.places.nursery nursery world lines _ c.args.script.now.preamble.mutators kept.stays.types half c.mutators.ensures.mutators ended
+    shows-ends c.end_all.new.heap c.loop-place.heap.types.now types c.loop-place.heap.places.nursery nursery world lines _ c.args.script.now.preamble.mutators invariant.stays.types half c.mutators.ensures.mutators ended
 
 pub returns-clause-replies : goal.returns-clause-replies
 returns-clause-replies c world shown =
-    let kept = c.loop-place.invariant in
+    let invariant = c.loop-place.invariant in
     let lines = c.args.script.now.lines in
     let past : length lines ≤ c.loop-place.place = omega (arith, c.loop-place-test.false, c.count-place-end.ensures.count) in
     let all : take c.loop-place.place lines ≡ lines = take_all c.loop-place.place lines past in
-    rw all at (kept.replies world shown)
+    rw all at (invariant.replies world shown)

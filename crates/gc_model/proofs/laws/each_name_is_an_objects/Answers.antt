@@ -1,4 +1,4 @@
-use Rattle.gc_model.proofs.Sound.{history-sound}
+use Rattle.gc_model.proofs.EveryStep.{history-sound}
 use Rattle.gc_model.proofs.laws.each_name_is_an_objects.Goals as goal
 
 pub returns : goal.returns

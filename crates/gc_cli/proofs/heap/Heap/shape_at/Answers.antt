@@ -34,5 +34,5 @@ returns c placement world object here =
     let there = object_at world.graph object in
     let head : Head = head_of there.ty there.maker in
     let is : c.unwrap-head.result ≡ head = same_Some c.unwrap-head.result head (sym c.unwrap-head.ensures ∙ c.of_word.ensures.exact head at.2 (sym at.3 ∙ sym c.word.ensures)) in
-    let found = get_or_from_slice_get c.args.self.now.types.now c.unwrap-head.result.ty.0 c.unwrap.result common_shape (sym c.shape.ensures.value ∙ c.unwrap.ensures) in
-    sym (rw is at found)
+    let shape = get_or_from_slice_get c.args.self.now.types.now c.unwrap-head.result.ty.0 c.unwrap.result common_shape (sym c.shape.ensures.value ∙ c.unwrap.ensures) in
+    sym (rw is at shape)

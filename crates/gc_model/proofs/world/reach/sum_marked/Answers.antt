@@ -12,8 +12,8 @@ use Rattle.gc_model.proofs.world.reach.sum_marked.Goals.{then-is_marked, else-is
 pub loop-number-preserved : goal.loop-number-preserved
 loop-number-preserved c =
     let graph = c.args.objects.now in
-    let found = c.args.found.now in
-    let place = c.loop-number.number in
+    let work = c.args.work.now in
+    let index = c.loop-number.number in
     let object = c.index-objects-number.result in
     let is = c.index-objects-number.is in
     let there = c.loop-number-test.true in
@@ -21,8 +21,10 @@ loop-number-preserved c =
     elim c.if-is_marked.branch [
       | then-is_marked w ↦
           let marked = sym w.if-is_marked.ensures in
-          let small : object_size object ≤ 64 = subst (λ (each : Object). object_size each ≤ 64) (sym is) (c.requires.small place object there) in
-          let sums = ap (λ (live : Live). sum_and live (object_size object)) before.sums ∙ sym (sum-marked graph found place object there is marked) in
+          let small : object_size object ≤ 64 =
+          subst (λ (each : Object). object_size each ≤ 64) (sym is) (c.requires.small index object there) in
+          let sums =
+          ap (λ (live : Live). sum_and live (object_size object)) before.sums ∙ sym (sum-marked graph work index object there is marked) in
           rw w.live-is (record {
             sums = ap (sum_and c.loop-number.live) w.size.ensures ∙ sums;
             few = omega (arith, before.few);
@@ -31,7 +33,7 @@ loop-number-preserved c =
       | else-is_marked w ↦
           let unmarked = sym w.if-is_marked.ensures in
           rw w.live-is (record {
-            sums = before.sums ∙ sym (sum-unmarked graph found place object there is unmarked);
+            sums = before.sums ∙ sym (sum-unmarked graph work index object there is unmarked);
             few = omega (arith, before.few);
             small = omega (arith, before.small);
           })
@@ -42,4 +44,5 @@ returns c =
     let members = enumerate_from 0 c.args.objects.now in
     let ended : length members ≤ c.loop-number.number = omega (arith, length-enumerate_from 0 c.args.objects.now) in
     c.loop-number.invariant.sums
-    ∙ ap (λ (each : List (ℕ × Object)). sum_of (filter (λ member. is_marked c.args.found.now member.0) each)) (take_all c.loop-number.number members ended)
+    ∙ ap (λ (each : List (ℕ × Object)). sum_of (filter (λ member. is_marked c.args.work.now member.0) each))
+    (take_all c.loop-number.number members ended)

@@ -5,7 +5,7 @@ use Rattle.gc_model.proofs.world.reach.sum_marked.Given as goal
 
 abbrev pub invariant-loop-number : goal.invariant-loop-number
 invariant-loop-number l = record {
-  sums : l.live ≡ sum_of (marked_before l.objects l.found l.number);
+  sums : l.live ≡ sum_of (marked_before l.objects l.work l.number);
   few : l.live.objects ≤ l.number;
   small : l.live.words ≤ 64 * l.number;
 }

@@ -2,7 +2,7 @@ use Rattle.std.proofs.Common.{◌≡◌, ◌<◌, ◌≤◌, arith, false, lengt
 use Rattle.std.specs.Vec.{vec_capacity}
 use Rattle.gc_model.specs.Worklist.{IsListed}
 use Rattle.gc_model.proofs.Worklist.{listed-room, listed-more}
-use Rattle.gc_model.proofs.world.found.Found.mark.Goals as goal
+use Rattle.gc_model.proofs.world.worklist.Worklist.mark.Goals as goal
 
 pub push_reserved-requires : goal.push_reserved-requires
 push_reserved-requires c =

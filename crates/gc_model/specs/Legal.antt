@@ -1,0 +1,68 @@
+-- Legal histories, in five parts: replies are the graph's, the heap's size is kept, full only where the rule on it says,
+-- a collect follows a full collection, and full reports count the reachable.
+use Rattle.std.specs.Prelude.{◌≡◌, ℕ, ◌+◌, ◌*◌, ◌≤◌, [], ◌∷◌, ◌++◌, fold, Bool, true, false, ◌==◌, if◌then◌else◌, IsTrue}
+use Rattle.std.specs.List.{list_any}
+use Rattle.gc_layout.specs.Shape.{size_of}
+use Rattle.gc_model.specs.declared.call.Call.TheVariants.{New, Collect}
+use Rattle.gc_model.specs.declared.reply.Reply.TheVariants.{Done}
+use Rattle.gc_model.specs.declared.entry.Entry.{Entry}
+use Rattle.gc_model.specs.declared.entry.Entry.TheVariants.{Made, Run}
+use Rattle.gc_model.specs.declared.entry.RunReport.TheVariants as report
+use Rattle.gc_model.specs.Answer.{answer, shape_at, IsFit}
+use Rattle.gc_model.specs.History.{Configuration, History, EachEntry, world_after}
+use Rattle.gc_model.specs.Interim.{FullAboveHalf}
+use Rattle.gc_model.specs.Reach.{live}
+
+-- a call is fit, and its reply is the graph's, with room for a new object or without
+abbrev pub ReplyIsTheGraphs : Configuration → History → Entry → Type 0
+ReplyIsTheGraphs heap before (Made t call reply) =
+    IsFit heap.types heap.mutators t call × ((room : Bool) × (reply ≡ (answer heap.types (world_after heap before) t call room).reply))
+ReplyIsTheGraphs heap before (Run report) = Unit {0}
+
+-- the heap's size is kept: the reachable words and a new object fit it together
+abbrev pub KeepsSize : Configuration → History → Entry → Type 0
+KeepsSize heap before (Made t (New into ty) Done) =
+    (live (world_after heap before)).words + size_of (shape_at heap.types ty.0) ≤ heap.mutators * (heap.nursery + 1024 * heap.pages)
+KeepsSize heap before entry = Unit {0}
+
+-- whether an entry is a mutator's own
+abbrev pub is_own : ℕ → Entry → Bool
+is_own t (Made mutator call reply) = mutator == t
+is_own t (Run report) = false
+
+-- whether an entry is a full collection
+abbrev pub is_full_collection : Entry → Bool
+is_full_collection (Made mutator call reply) = false
+is_full_collection (Run report.Minor) = false
+is_full_collection (Run (report.Full objects words)) = true
+
+-- the entries after the last one of a mutator's own
+abbrev pub since_last : ℕ → History → History
+since_last t history = fold (λ since entry. if is_own t entry then [] else since ++ entry ∷ []) [] history
+
+-- a collect is done only after a full collection that stands after its mutator's previous entry
+abbrev pub CollectFollowsFull : Configuration → History → Entry → Type 0
+CollectFollowsFull heap before (Made t Collect Done) = IsTrue (list_any is_full_collection (since_last t before))
+CollectFollowsFull heap before entry = Unit {0}
+
+-- a full report counts the reachable objects and their words
+abbrev pub ReportCountsReachable : Configuration → History → Entry → Type 0
+ReportCountsReachable heap before (Run (report.Full objects words)) =
+    live (world_after heap before) ≡ record { objects = objects; words = words }
+ReportCountsReachable heap before entry = Unit {0}
+
+-- a history that the heap may have: each entry meets each part in view of the entries before it
+pub record IsLegal (heap : Configuration) (history : History) : Type 0 where
+  pub replies : EachEntry (ReplyIsTheGraphs heap) [] history
+  pub size : EachEntry (KeepsSize heap) [] history
+  pub full : EachEntry (FullAboveHalf heap) [] history
+  pub collect : EachEntry (CollectFollowsFull heap) [] history
+  pub reports : EachEntry (ReportCountsReachable heap) [] history
+
+-- an entry that may stand behind a legal history: it meets each part in view of the entries before it
+pub record MayFollow (heap : Configuration) (before : History) (entry : Entry) : Type 0 where
+  pub replies : ReplyIsTheGraphs heap before entry
+  pub size : KeepsSize heap before entry
+  pub full : FullAboveHalf heap before entry
+  pub collect : CollectFollowsFull heap before entry
+  pub reports : ReportCountsReachable heap before entry
