@@ -16,6 +16,10 @@ pub record IsRead (old new : Option (List ℕ)) (bytes : List ℕ) : Type 0 wher
   pub ended : IfSome new (λ rest. rest ≡ [])
   pub few : length bytes ≤ most_bytes
 
+-- the source was read to its end, and its bytes are a script
+abbrev pub GivesScript : Option (List ℕ) → Option (List ℕ) → Type 0
+GivesScript old new = (bytes : List ℕ) × (script : Script) × IsRead old new bytes × IsScript bytes script
+
 -- the heap that a script is played on, by the options
 abbrev pub heap_for : Opts → Script → Configuration
 heap_for opts script =
