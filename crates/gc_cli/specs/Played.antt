@@ -1,5 +1,6 @@
 -- What a run of the program read, played and printed.
-use Rattle.std.specs.Prelude.{◌≡◌, ℕ, ◌<◌, ◌≤◌, List, [], ◌++◌, length, Option, IfSome, false}
+use Rattle.std.specs.Prelude.{◌≡◌, ℕ, ◌+◌, ◌<◌, ◌≤◌, List, [], ◌++◌, length, Option, IfSome, false}
+use Rattle.gc_io.specs.Faults.{HasRisen}
 use Rattle.gc_io.specs.Streams.{GivesUp, Appends, AppendsPrefix}
 use Rattle.gc_model.specs.History.{Configuration, History, FitsScript, lines_in, ends_of}
 use Rattle.gc_model.specs.Legal.{IsLegal}
@@ -12,9 +13,13 @@ use Rattle.gc_cli.specs.Text.{text_of}
 -- the source, whose rest was one and is another, was read to its end, and gave these bytes, no more than a
 -- script may have
 pub record IsRead (old new : Option (List ℕ)) (bytes : List ℕ) : Type 0 where
-  pub given : GivesUp old new bytes
+  pub gave : GivesUp old new bytes
   pub ended : IfSome new (λ rest. rest ≡ [])
   pub few : length bytes ≤ most_bytes
+
+-- the source was read to its end, and its bytes are a script
+abbrev pub GivesScript : Option (List ℕ) → Option (List ℕ) → Type 0
+GivesScript old new = (bytes : List ℕ) × (script : Script) × IsRead old new bytes × IsScript bytes script
 
 -- the heap that a script is played on, by the options
 abbrev pub heap_for : Opts → Script → Configuration
@@ -30,14 +35,16 @@ pub record IsHistoryOf (opts : Opts) (script : Script) (history : History) : Typ
 
 -- the source was read to its end, its bytes are this script, it was played by this history, and the sink got the
 -- replies of the history by line number
-pub record Plays (opts : Opts) (rest_old rest_new written_old written_new : Option (List ℕ)) (bytes : List ℕ) (script : Script) (history : History) : Type 0 where
+pub record Plays (opts : Opts) (rest_old rest_new written_old written_new : Option (List ℕ))
+    (bytes : List ℕ) (script : Script) (history : History) : Type 0 where
   pub read : IsRead rest_old rest_new bytes
   pub script_is : IsScript bytes script
   pub played : IsHistoryOf opts script history
   pub printed : Appends written_old written_new (text_of script history)
 
 -- as before, but the sink got only the first bytes of the text, maybe none
-pub record PlaysInPart (opts : Opts) (rest_old rest_new written_old written_new : Option (List ℕ)) (bytes : List ℕ) (script : Script) (history : History) : Type 0 where
+pub record PlaysInPart (opts : Opts) (rest_old rest_new written_old written_new : Option (List ℕ))
+    (bytes : List ℕ) (script : Script) (history : History) : Type 0 where
   pub read : IsRead rest_old rest_new bytes
   pub script_is : IsScript bytes script
   pub played : IsHistoryOf opts script history
@@ -48,21 +55,27 @@ pub record IsNoScript (old new : Option (List ℕ)) (bytes : List ℕ) (line cau
   pub read : IsRead old new bytes
   pub first : IsFirstFault bytes line cause
 
--- the source gave more bytes than a script may have
+-- the source gave one byte more than a script may have, and was read no further
 pub record IsTooLong (old new : Option (List ℕ)) (bytes : List ℕ) : Type 0 where
-  pub given : GivesUp old new bytes
-  pub long : most_bytes < length bytes
+  pub gave : GivesUp old new bytes
+  pub long : length bytes ≡ most_bytes + 1
+
+-- the source gave these bytes, no more than a script may have, and then had a fault
+pub record BreaksOff (old new : Option (List ℕ)) (faults_old faults_new : ℕ) (bytes : List ℕ) : Type 0 where
+  pub gave : GivesUp old new bytes
+  pub few : length bytes ≤ most_bytes
+  pub fault : HasRisen faults_old faults_new
 
 -- the source gave at least one byte more and no more than there was room for, and it stands behind the bytes so far
 pub record TakesMore (old new : Option (List ℕ)) (room : ℕ) (bytes_old bytes_new : List ℕ) : Type 0 where
-  pub taken : List ℕ
-  pub given : GivesUp old new taken
-  pub some : 0 < length taken
-  pub few : length taken ≤ room
-  pub behind : bytes_new ≡ bytes_old ++ taken
+  pub piece : List ℕ
+  pub gave : GivesUp old new piece
+  pub some : 0 < length piece
+  pub few : length piece ≤ room
+  pub behind : bytes_new ≡ bytes_old ++ piece
 
 -- the options are within their limits
-pub record IsWithinLimits (opts : Opts) : Type 0 where
+pub record AreAllowed (opts : Opts) : Type 0 where
   pub least_half : 64 ≤ opts.nursery
   pub most_half : opts.nursery ≤ 65536
   pub some_pages : 1 ≤ opts.pages

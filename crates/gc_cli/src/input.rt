@@ -1,6 +1,9 @@
+//! Reading a source to its end, or to the first byte that is too many. Pieces are asked for, and the last one is cut
+//! so that no byte is taken past that one. The first fault ends the reading.
+
 ghost use Rattle.std.specs.Prelude.{◌≡◌, ℕ, List, [], ◌≤◌, ◌<◌, length, vec_len, Ok, IfOk, IfSome, IsErrOf};
 ghost use Rattle.gc_io.specs.Faults.{HasRisen};
-ghost use Rattle.gc_cli.specs.Played.{IsRead, IsTooLong, TakesMore};
+ghost use Rattle.gc_cli.specs.Played.{IsRead, IsTooLong, BreaksOff, TakesMore};
 
 use gc_io::{Source, Taken};
 use std::alloc::{AllocError, Global};
@@ -29,10 +32,12 @@ enum Step {
     End,
 }
 
-/// Reads a source to its end. The reading stops at byte 16,777,217.
+/// Reads a source to its end. The reading stops at byte 16,777,217, and at the first fault.
 pub(crate) fn read_input<S: Source>(alloc: Global, src: &mut S) -> Result<Vec<u8>, InputFault>
     ensures read { IfOk result (λ bytes. IsRead (S.rest src.old) (S.rest src.new) bytes.items) }
-    ensures fault { IsErrOf result InputFault.Fault → HasRisen (S.faults src.old) (S.faults src.new) }
+    ensures fault { IsErrOf result InputFault.Fault
+        → ((bytes : List ℕ) × BreaksOff (S.rest src.old) (S.rest src.new) (S.faults src.old) (S.faults src.new) bytes) }
+    ensures quiet { ¬ IsErrOf result InputFault.Fault → S.faults src.new ≡ S.faults src.old }
     ensures long { IsErrOf result InputFault.Long
         → ((bytes : List ℕ) × IsTooLong (S.rest src.old) (S.rest src.new) bytes) }
     ensures never_falls { S.faults src.old ≤ S.faults src.new }
@@ -64,6 +69,8 @@ fn take_piece<S: Source>(
     ensures end_stays { result ≡ Ok Step.End
         → (S.rest src.new ≡ S.rest src.old) × (bytes.new.items ≡ bytes.old.items) }
     ensures fault { IsErrOf result InputFault.Fault → HasRisen (S.faults src.old) (S.faults src.new) }
+    ensures fault_stays { IsErrOf result InputFault.Fault → S.rest src.new ≡ S.rest src.old }
+    ensures quiet { ¬ IsErrOf result InputFault.Fault → S.faults src.new ≡ S.faults src.old }
     ensures short { ¬ IsErrOf result InputFault.Long }
     ensures never_falls { S.faults src.old ≤ S.faults src.new }
 {

@@ -1,3 +1,5 @@
+//! The options of a script that is played.
+
 /// What the options ask for: the words of a semispace half, 64 to 65,536; the pages of a mutator, 1 to 128;
 /// and whether the collections and a summary are reported.
 #[derive(Clone, Copy, Debug, PartialEq, Eq)]

@@ -1,3 +1,5 @@
+//! Writing the replies, one piece a line.
+
 ghost use Rattle.std.specs.Prelude.{◌≡◌, ◌<◌, ◌≤◌, length, slice_get, Some};
 ghost use Rattle.gc_io.specs.Faults.{HasRisen};
 ghost use Rattle.gc_io.specs.Streams.{Appends, AppendsPrefix};
@@ -16,13 +18,14 @@ pub(crate) fn write_replies<K: Sink>(script: &Script, replies: &[Reply], out: &m
     requires { length replies.now ≡ length script.now.lines }
     ensures all { result ≡ Put.All
         → Appends (K.written out.old) (K.written out.new) (replies_text script.now replies.now) }
+    ensures quiet { result ≡ Put.All → K.faults out.new ≡ K.faults out.old }
     ensures failed { result ≡ Put.Failed → HasRisen (K.faults out.old) (K.faults out.new) }
     ensures part { result ≡ Put.Failed
         → AppendsPrefix (K.written out.old) (K.written out.new) (replies_text script.now replies.now) }
     ensures never_falls { K.faults out.old ≤ K.faults out.new }
 {
-    for place in 0..replies.len() {
-        match write_reply(script, replies, place, out) {
+    for index in 0..replies.len() {
+        match write_reply(script, replies, index, out) {
             Put::All => {}
             Put::Failed => return Put::Failed,
         }
@@ -31,17 +34,18 @@ pub(crate) fn write_replies<K: Sink>(script: &Script, replies: &[Reply], out: &m
 }
 
 /// Writes the reply to a line, counted from 0.
-fn write_reply<K: Sink>(script: &Script, replies: &[Reply], place: usize, out: &mut K) -> Put
-    requires there { place < length replies.now }
+fn write_reply<K: Sink>(script: &Script, replies: &[Reply], index: usize, out: &mut K) -> Put
+    requires there { index < length replies.now }
     requires answered { length replies.now ≡ length script.now.lines }
-    ensures all { (reply : GraphReply) → slice_get replies.now place ≡ Some reply → result ≡ Put.All
-        → Appends (K.written out.old) (K.written out.new) (reply_line (number_of_line script.now place) reply) }
+    ensures all { (reply : GraphReply) → slice_get replies.now index ≡ Some reply → result ≡ Put.All
+        → Appends (K.written out.old) (K.written out.new) (reply_line (number_of_line script.now index) reply) }
+    ensures quiet { result ≡ Put.All → K.faults out.new ≡ K.faults out.old }
     ensures failed { result ≡ Put.Failed → HasRisen (K.faults out.old) (K.faults out.new) }
-    ensures part { (reply : GraphReply) → slice_get replies.now place ≡ Some reply → result ≡ Put.Failed
-        → AppendsPrefix (K.written out.old) (K.written out.new) (reply_line (number_of_line script.now place) reply) }
+    ensures part { (reply : GraphReply) → slice_get replies.now index ≡ Some reply → result ≡ Put.Failed
+        → AppendsPrefix (K.written out.old) (K.written out.new) (reply_line (number_of_line script.now index) reply) }
     ensures never_falls { K.faults out.old ≤ K.faults out.new }
 {
-    let number = script.line_number(place).unwrap();
-    let line = reply_line(number, &replies[place]);
+    let number = script.line_number(index).unwrap();
+    let line = reply_line(number, &replies[index]);
     out.put(line.as_bytes())
 }

@@ -4,7 +4,7 @@ ghost use Rattle.gc_model.specs.Interim.{answer_to, replies_of, world_after_line
 ghost use Rattle.gc_model.specs.World.{World};
 ghost use Rattle.gc_model.specs.declared.call.Line.{Line as CallLine};
 ghost use Rattle.gc_cli.specs.Heap.{ShowsWorld, Stays, IsAnswered};
-ghost use Rattle.gc_cli.specs.Played.{IsHistoryOf, IsWithinLimits};
+ghost use Rattle.gc_cli.specs.Played.{IsHistoryOf, AreAllowed};
 
 use crate::heap::Heap;
 use crate::opts::Opts;
@@ -16,7 +16,7 @@ use std::alloc::Global;
 /// Plays a script on a heap of its own, and gives the replies to its lines. All memory is taken before the first
 /// line is played.
 pub(crate) fn play(alloc: Global, opts: &Opts, script: &Script) -> Result<Vec<Reply>, NoMemory>
-    requires { IsWithinLimits opts.now }
+    requires { AreAllowed opts.now }
     ensures replies { IfOk result (λ replies. (history : History) × IsHistoryOf opts.now script.now history
         × (replies.items ≡ replies_by_line history [] script.now.lines)) }
     ensures answered { IfOk result (λ replies. vec_len replies ≡ length script.now.lines) }

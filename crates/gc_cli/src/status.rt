@@ -1,3 +1,5 @@
+//! How the program ends: the status, its exit status, and its line on standard error.
+
 ghost use Rattle.std.specs.Prelude.{◌≡◌, ◌≤◌};
 ghost use Rattle.gc_io.specs.Faults.{HasRisen};
 ghost use Rattle.gc_io.specs.Streams.{Appends, AppendsPrefix};

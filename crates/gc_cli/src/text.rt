@@ -1,3 +1,5 @@
+//! The text of a line: of a reply, and of a status. A line is made whole before it is written.
+
 ghost use Rattle.std.specs.Prelude.{◌≡◌, [], ◌+◌, ◌≤◌, ◌++◌, length, decimal};
 ghost use Rattle.gc_cli.specs.Text.{reply_text, reply_line};
 ghost use Rattle.gc_cli.specs.Command.{status_line, cause_text};

@@ -1,4 +1,8 @@
-ghost use Rattle.std.specs.Prelude.{◌≡◌, ◌≢◌, ◌<◌, ◌≤◌, ◌↔◌, ℕ, List, length, None, Some, map, string_bytes, IfOk, IfErr};
+//! The top call, and what it makes of a script: the words ask for it, the source is read to its end, the bytes are
+//! read as a script, the script is played, and the replies are written. Each step but the last can end the whole
+//! with a status of its own, and the line of the status is written last.
+
+ghost use Rattle.std.specs.Prelude.{◌≡◌, ◌≢◌, ◌<◌, ◌≤◌, ◌↔◌, ℕ, List, length, None, Some, map, string_bytes, IfOk, IfErr, IsErrOf};
 ghost use Rattle.gc_io.specs.Faults.{HasRisen};
 ghost use Rattle.gc_io.specs.Streams.{Appends, AppendsPrefix};
 ghost use Rattle.gc_model.specs.History.{History};
@@ -7,7 +11,7 @@ ghost use Rattle.gc_script.specs.Text.{most_bytes};
 ghost use Rattle.gc_script.specs.Script.{Script as Text};
 ghost use Rattle.gc_cli.specs.Causes.{HasNoScript, Tells, IsOrNoMemory};
 ghost use Rattle.gc_cli.specs.Command.{request_of, status_line};
-ghost use Rattle.gc_cli.specs.Played.{IsRead, IsTooLong, IsNoScript, Plays, PlaysInPart, IsWithinLimits, default_opts};
+ghost use Rattle.gc_cli.specs.Played.{IsRead, IsTooLong, IsNoScript, BreaksOff, Plays, PlaysInPart, AreAllowed, default_opts};
 
 use crate::command::{Request, request_of};
 use crate::input::{InputFault, read_input};
@@ -18,83 +22,6 @@ use crate::status::{Left, Outcome, Status, write_status};
 use gc_io::{Gate, Put, Sink, Source};
 use gc_script::{Script, ScriptFault, read_script};
 use std::alloc::Global;
-
-/// Reads a script from a source that is read to its end.
-fn read_source<S: Source>(alloc: Global, src: &mut S) -> Result<Script, Status>
-    ensures script { IfOk result (λ script. (bytes : List ℕ) × IsRead (S.rest src.old) (S.rest src.new) bytes × IsScript bytes script) }
-    ensures fault { IfErr result (λ status. HasNoScript status (S.rest src.old) (S.rest src.new) (S.faults src.old) (S.faults src.new)) }
-    ensures never_falls { S.faults src.old ≤ S.faults src.new }
-{
-    let bytes = match read_input(alloc, src) {
-        Ok(bytes) => bytes,
-        Err(InputFault::Fault) => return Err(Status::ReadFault),
-        Err(InputFault::Long) => return Err(Status::Long),
-        Err(InputFault::NoMemory) => return Err(Status::NoMemory),
-    };
-    match read_script(alloc, bytes.as_slice()) {
-        Ok(script) => Ok(script),
-        Err(ScriptFault::Bad { line, cause }) => Err(Status::Bad { line, cause }),
-        Err(ScriptFault::Long) => unreachable!(),
-        Err(ScriptFault::NoMemory) => Err(Status::NoMemory),
-    }
-}
-
-/// Reads a script, plays its lines in the order of the text, and then each mutator's End, and writes the replies
-/// by line number. It waits for nobody. A half of the heap has `nursery` words.
-pub fn play_bytes<S: Source, K: Sink>(
-    alloc: Global,
-    opts: &Opts,
-    src: &mut S,
-    out: &mut K,
-) -> Outcome
-    requires { IsWithinLimits opts.now }
-
-    // The source was read to its end, its bytes are a script, and the sink got the replies of a legal history
-    // that fits the script.
-    ensures done { result.status ≡ Status.Done
-        → ((bytes : List ℕ) × (script : Text) × (history : History) × Plays opts.now (S.rest src.old) (S.rest src.new)
-        (K.written out.old) (K.written out.new) bytes script history) }
-
-    // Each other status has its cause; want of memory is free.
-    ensures no_usage { result.status ≢ Status.Usage }
-    ensures read_fault { result.status ≡ Status.ReadFault → HasRisen (S.faults src.old) (S.faults src.new) }
-    ensures long { result.status ≡ Status.Long
-        → ((bytes : List ℕ) × IsTooLong (S.rest src.old) (S.rest src.new) bytes) }
-    ensures bad { (line cause : ℕ) → result.status ≡ Status.Bad line cause
-        → ((bytes : List ℕ) × IsNoScript (S.rest src.old) (S.rest src.new) bytes line cause) }
-    ensures write_fault { result.status ≡ Status.WriteFault → HasRisen (K.faults out.old) (K.faults out.new) }
-    ensures write_part { result.status ≡ Status.WriteFault
-        → ((bytes : List ℕ) × (script : Text) × (history : History) × PlaysInPart opts.now (S.rest src.old) (S.rest src.new)
-        (K.written out.old) (K.written out.new) bytes script history) }
-
-    // What else was given is told: a text that is too long, the first fault of one that is no script; and a
-    // script is played, where the sink counts no fault. Want of memory may stand in place of each.
-    ensures long_is_told { (bytes : List ℕ) → Tells (S.rest src.old) (S.faults src.old) (S.faults src.new) bytes
-        → most_bytes < length bytes → IsOrNoMemory Status.Long result.status }
-    ensures bad_is_told { (bytes : List ℕ) (line cause : ℕ) → Tells (S.rest src.old) (S.faults src.old) (S.faults src.new) bytes
-        → length bytes ≤ most_bytes → IsFirstFault bytes line cause → IsOrNoMemory (Status.Bad line cause) result.status }
-    ensures complete { (bytes : List ℕ) (script : Text) → Tells (S.rest src.old) (S.faults src.old) (S.faults src.new) bytes
-        → length bytes ≤ most_bytes → IsScript bytes script → ¬ HasRisen (K.faults out.old) (K.faults out.new)
-        → IsOrNoMemory Status.Done result.status }
-
-    // Unless something was played and written, the sink is as before.
-    ensures untouched { result.status ≢ Status.Done → result.status ≢ Status.WriteFault → out.new ≡ out.old }
-    ensures left { result.left ≡ Left.Nothing }
-    ensures src_never_falls { S.faults src.old ≤ S.faults src.new }
-    ensures out_never_falls { K.faults out.old ≤ K.faults out.new }
-{
-    let script = match read_source(alloc, src) {
-        Ok(script) => script,
-        Err(status) => return Outcome::nothing_left(status),
-    };
-    let Ok(replies) = play(alloc, opts, &script) else {
-        return Outcome::nothing_left(Status::NoMemory);
-    };
-    match write_replies(&script, replies.as_slice(), out) {
-        Put::All => Outcome::nothing_left(Status::Done),
-        Put::Failed => Outcome::nothing_left(Status::WriteFault),
-    }
-}
 
 /// The top call: all that the program does. `args` are the words after the program's name, `src` is its
 /// standard input, `out` its standard output and `err` its standard error. So far no command waits or asks
@@ -117,7 +44,8 @@ pub fn moar_gc<R, S: Source, K: Sink, E: Sink, G: Gate + Sync>(
     // Each other status has its cause; want of memory is free.
     ensures usage { (result.status ≡ Status.Usage) ↔ (request_of (map string_bytes args.now) ≡ None) }
     ensures usage_reads_nothing { result.status ≡ Status.Usage → src.new ≡ src.old }
-    ensures read_fault { result.status ≡ Status.ReadFault → HasRisen (S.faults src.old) (S.faults src.new) }
+    ensures read_fault { result.status ≡ Status.ReadFault
+        → ((bytes : List ℕ) × BreaksOff (S.rest src.old) (S.rest src.new) (S.faults src.old) (S.faults src.new) bytes) }
     ensures long { result.status ≡ Status.Long
         → ((bytes : List ℕ) × IsTooLong (S.rest src.old) (S.rest src.new) bytes) }
     ensures bad { (line cause : ℕ) → result.status ≡ Status.Bad line cause
@@ -140,6 +68,10 @@ pub fn moar_gc<R, S: Source, K: Sink, E: Sink, G: Gate + Sync>(
         → length bytes ≤ most_bytes → IsScript bytes script → ¬ HasRisen (K.faults out.old) (K.faults out.new)
         → IsOrNoMemory Status.Done result.status }
 
+    // Each fault that was counted is told.
+    ensures src_quiet { result.status ≢ Status.ReadFault → S.faults src.new ≡ S.faults src.old }
+    ensures out_quiet { result.status ≢ Status.WriteFault → K.faults out.new ≡ K.faults out.old }
+
     // Unless something was played and written, the sink is as before.
     ensures untouched { result.status ≢ Status.Done → result.status ≢ Status.WriteFault → out.new ≡ out.old }
     ensures left { result.left ≡ Left.Nothing }
@@ -158,4 +90,89 @@ pub fn moar_gc<R, S: Source, K: Sink, E: Sink, G: Gate + Sync>(
     };
     write_status(outcome.status, err);
     outcome
+}
+
+/// Reads a script, plays its lines in the order of the text, and then each mutator's End, and writes the replies
+/// by line number. It waits for nobody. A half of the heap has `nursery` words.
+pub fn play_bytes<S: Source, K: Sink>(
+    alloc: Global,
+    opts: &Opts,
+    src: &mut S,
+    out: &mut K,
+) -> Outcome
+    requires { AreAllowed opts.now }
+
+    // The source was read to its end, its bytes are a script, and the sink got the replies of a legal history
+    // that fits the script.
+    ensures done { result.status ≡ Status.Done
+        → ((bytes : List ℕ) × (script : Text) × (history : History) × Plays opts.now (S.rest src.old) (S.rest src.new)
+        (K.written out.old) (K.written out.new) bytes script history) }
+
+    // Each other status has its cause; want of memory is free.
+    ensures no_usage { result.status ≢ Status.Usage }
+    ensures read_fault { result.status ≡ Status.ReadFault
+        → ((bytes : List ℕ) × BreaksOff (S.rest src.old) (S.rest src.new) (S.faults src.old) (S.faults src.new) bytes) }
+    ensures long { result.status ≡ Status.Long
+        → ((bytes : List ℕ) × IsTooLong (S.rest src.old) (S.rest src.new) bytes) }
+    ensures bad { (line cause : ℕ) → result.status ≡ Status.Bad line cause
+        → ((bytes : List ℕ) × IsNoScript (S.rest src.old) (S.rest src.new) bytes line cause) }
+    ensures write_fault { result.status ≡ Status.WriteFault → HasRisen (K.faults out.old) (K.faults out.new) }
+    ensures write_part { result.status ≡ Status.WriteFault
+        → ((bytes : List ℕ) × (script : Text) × (history : History) × PlaysInPart opts.now (S.rest src.old) (S.rest src.new)
+        (K.written out.old) (K.written out.new) bytes script history) }
+
+    // What else was given is told: a text that is too long, the first fault of one that is no script; and a
+    // script is played, where the sink counts no fault. Want of memory may stand in place of each.
+    ensures long_is_told { (bytes : List ℕ) → Tells (S.rest src.old) (S.faults src.old) (S.faults src.new) bytes
+        → most_bytes < length bytes → IsOrNoMemory Status.Long result.status }
+    ensures bad_is_told { (bytes : List ℕ) (line cause : ℕ) → Tells (S.rest src.old) (S.faults src.old) (S.faults src.new) bytes
+        → length bytes ≤ most_bytes → IsFirstFault bytes line cause → IsOrNoMemory (Status.Bad line cause) result.status }
+    ensures complete { (bytes : List ℕ) (script : Text) → Tells (S.rest src.old) (S.faults src.old) (S.faults src.new) bytes
+        → length bytes ≤ most_bytes → IsScript bytes script → ¬ HasRisen (K.faults out.old) (K.faults out.new)
+        → IsOrNoMemory Status.Done result.status }
+
+    // Each fault that was counted is told.
+    ensures src_quiet { result.status ≢ Status.ReadFault → S.faults src.new ≡ S.faults src.old }
+    ensures out_quiet { result.status ≢ Status.WriteFault → K.faults out.new ≡ K.faults out.old }
+
+    // Unless something was played and written, the sink is as before.
+    ensures untouched { result.status ≢ Status.Done → result.status ≢ Status.WriteFault → out.new ≡ out.old }
+    ensures left { result.left ≡ Left.Nothing }
+    ensures src_never_falls { S.faults src.old ≤ S.faults src.new }
+    ensures out_never_falls { K.faults out.old ≤ K.faults out.new }
+{
+    let script = match read_source(alloc, src) {
+        Ok(script) => script,
+        Err(status) => return Outcome::nothing_left(status),
+    };
+    let Ok(replies) = play(alloc, opts, &script) else {
+        return Outcome::nothing_left(Status::NoMemory);
+    };
+    match write_replies(&script, replies.as_slice(), out) {
+        Put::All => Outcome::nothing_left(Status::Done),
+        Put::Failed => Outcome::nothing_left(Status::WriteFault),
+    }
+}
+
+/// Reads a script from a source that is read to its end.
+fn read_source<S: Source>(alloc: Global, src: &mut S) -> Result<Script, Status>
+    ensures script { IfOk result (λ script. (bytes : List ℕ)
+        × IsRead (S.rest src.old) (S.rest src.new) bytes × IsScript bytes script) }
+    ensures fault { IfErr result (λ status.
+        HasNoScript status (S.rest src.old) (S.rest src.new) (S.faults src.old) (S.faults src.new)) }
+    ensures quiet { ¬ IsErrOf result Status.ReadFault → S.faults src.new ≡ S.faults src.old }
+    ensures never_falls { S.faults src.old ≤ S.faults src.new }
+{
+    let bytes = match read_input(alloc, src) {
+        Ok(bytes) => bytes,
+        Err(InputFault::Fault) => return Err(Status::ReadFault),
+        Err(InputFault::Long) => return Err(Status::Long),
+        Err(InputFault::NoMemory) => return Err(Status::NoMemory),
+    };
+    match read_script(alloc, bytes.as_slice()) {
+        Ok(script) => Ok(script),
+        Err(ScriptFault::Bad { line, cause }) => Err(Status::Bad { line, cause }),
+        Err(ScriptFault::Long) => unreachable!(),
+        Err(ScriptFault::NoMemory) => Err(Status::NoMemory),
+    }
 }

@@ -13,14 +13,14 @@ pub record Supply : Type 0 where
   pub calls : ℕ
   pub faults : ℕ
 
--- what a call gives that may give so many bytes, where these are left
-abbrev pub given_of : List ℕ → ℕ → Taken
-given_of rest most = if length rest == 0 then End else Bytes (min most (length rest))
+-- what a call answers that doesn't fail and may give so many bytes, where these are left
+abbrev pub steady_answer : List ℕ → ℕ → Taken
+steady_answer rest most = if length rest == 0 then End else Bytes (min most (length rest))
 
 -- what the next call answers, into a room of so many bytes
 abbrev pub next_answer : Supply → ℕ → Taken
 next_answer supply room =
-    if is_listed (one_more supply.calls) supply.failing then Failed else given_of supply.rest (min supply.step room)
+    if is_listed (one_more supply.calls) supply.failing then Failed else steady_answer supply.rest (min supply.step room)
 
 -- the bytes that are left after a call with this answer
 abbrev pub rest_after : List ℕ → Taken → List ℕ

@@ -1,3 +1,5 @@
+//! The calls of a source or sink in memory that are chosen to fail.
+
 ghost use Rattle.std.specs.Prelude.{◌≡◌};
 ghost use Rattle.gc_io.specs.Faults.{is_listed};
 

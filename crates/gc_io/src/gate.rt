@@ -1,3 +1,5 @@
+//! Gates: they let a worker's lines pass, or hold them back.
+
 ghost use Rattle.std.specs.Prelude.{IsTrue};
 
 /// Lets the lines of a script pass. A worker asks `before` until it is true, then makes the call of its

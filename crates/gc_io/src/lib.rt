@@ -9,7 +9,6 @@
 
 mod failing;
 mod gate;
-mod held;
 mod memory_sink;
 mod memory_source;
 mod sink;
@@ -19,6 +18,7 @@ mod std_source;
 mod steady_source;
 #[cfg(test)]
 mod tests;
+mod unread;
 
 pub use gate::{Gate, OpenGate};
 pub use memory_sink::MemorySink;

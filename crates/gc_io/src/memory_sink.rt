@@ -1,4 +1,6 @@
-ghost use Rattle.std.specs.Prelude.{◌≡◌, ◌≤◌, [], Some, IfOk};
+//! A sink in memory, which fails at chosen calls and where its room is spent.
+
+ghost use Rattle.std.specs.Prelude.{◌≡◌, ◌≢◌, ◌≤◌, [], Some, IfOk};
 ghost use Rattle.gc_io.specs.Faults.{HasRisen};
 ghost use Rattle.gc_io.specs.Streams.{Appends, AppendsPrefix};
 ghost use Rattle.gc_io.specs.declared.sink.Put.TheVariants.{All, Failed};
@@ -78,6 +80,7 @@ impl Sink for MemorySink {
         ensures first_bytes { result ≡ Failed
             → AppendsPrefix (Some self.old.written) (Some self.new.written) piece.now }
         ensures empty { piece.now ≡ [] → result ≡ All }
+        ensures quiet { result ≢ Failed → self.new.faults ≡ self.old.faults }
         ensures never_falls { self.old.faults ≤ self.new.faults }
 
         ensures answer { result ≡ next_answer self.old piece.now }

@@ -1,17 +1,19 @@
-ghost use Rattle.std.specs.Prelude.{◌≡◌, ℕ, ◌<◌, ◌≤◌, [], length, take, Some};
+//! A source in memory, which fails at chosen calls.
+
+ghost use Rattle.std.specs.Prelude.{◌≡◌, ◌≢◌, ℕ, ◌<◌, ◌≤◌, [], length, take, Some};
 ghost use Rattle.gc_io.specs.Faults.{HasRisen};
 ghost use Rattle.gc_io.specs.Streams.{GivesUp};
 ghost use Rattle.gc_io.specs.declared.source.Taken.TheVariants.{Bytes, End, Failed};
 
 use crate::failing::lists;
-use crate::held::Held;
+use crate::unread::Unread;
 use crate::{Source, Taken};
 use std::marker::Model;
 
 /// A source of bytes in memory that gives at most so many bytes a call and fails at chosen calls.
 #[derive(Debug, Drop)]
 pub struct MemorySource {
-    held: Held,
+    unread: Unread,
     step: usize,
     failing: Vec<u32>,
     calls: u64,
@@ -25,7 +27,7 @@ impl Model for MemorySource {
     ghost Value = { Supply };
 
     ghost view = { λ s. record {
-      rest = s.held;
+      rest = s.unread;
       step = s.step;
       failing = s.failing.items;
       calls = s.calls;
@@ -46,7 +48,7 @@ impl MemorySource {
             ≡ record { rest = bytes.items; step = step; failing = failing.items; calls = 0; faults = 0 } }
     {
         MemorySource {
-            held: Held::make(bytes),
+            unread: Unread::make(bytes),
             step,
             failing,
             calls: 0,
@@ -66,12 +68,13 @@ impl Source for MemorySource {
     fn take(&mut self, room: &mut [u8]) -> Taken
         requires { 0 < length room.old }
         ensures some { (count : ℕ) → result ≡ Bytes count → (0 < count) × (count ≤ length room.new) }
-        ensures given { (count : ℕ) → result ≡ Bytes count
+        ensures bytes { (count : ℕ) → result ≡ Bytes count
             → GivesUp (Some self.old.rest) (Some self.new.rest) (take count room.new) }
         ensures end { result ≡ End → self.old.rest ≡ [] }
         ensures end_stays { result ≡ End → self.new.rest ≡ self.old.rest }
         ensures failed { result ≡ Failed → HasRisen self.old.faults self.new.faults }
         ensures failed_stays { result ≡ Failed → self.new.rest ≡ self.old.rest }
+        ensures quiet { result ≢ Failed → self.new.faults ≡ self.old.faults }
         ensures never_falls { self.old.faults ≤ self.new.faults }
 
         ensures answer { result ≡ next_answer self.old (length room.old) }
@@ -82,9 +85,9 @@ impl Source for MemorySource {
             self.faults = self.faults.saturating_add(1);
             return Taken::Failed;
         }
-        if self.held.left().is_empty() {
+        if self.unread.left().is_empty() {
             return Taken::End;
         }
-        Taken::Bytes(self.held.give(self.step, room))
+        Taken::Bytes(self.unread.read(self.step, room))
     }
 }

@@ -1,4 +1,6 @@
-ghost use Rattle.std.specs.Prelude.{◌≡◌, ℕ, ◌≤◌, List, [], Option};
+//! What every sink of bytes keeps.
+
+ghost use Rattle.std.specs.Prelude.{◌≡◌, ◌≢◌, ℕ, ◌≤◌, List, [], Option};
 ghost use Rattle.gc_io.specs.Faults.{HasRisen};
 ghost use Rattle.gc_io.specs.Streams.{Appends, AppendsPrefix};
 ghost use Rattle.gc_io.specs.declared.sink.Put.TheVariants.{All, Failed};
@@ -27,5 +29,7 @@ pub trait Sink {
         ensures first_bytes { result ≡ Failed
             → AppendsPrefix (written self.old) (written self.new) piece.now }
         ensures empty { piece.now ≡ [] → result ≡ All }
+        // Each fault that was counted is told.
+        ensures quiet { result ≢ Failed → faults self.new ≡ faults self.old }
         ensures never_falls { faults self.old ≤ faults self.new };
 }

@@ -1,4 +1,6 @@
-ghost use Rattle.std.specs.Prelude.{◌≡◌, ℕ, ◌<◌, ◌≤◌, List, [], length, take, Option, Some, IfSome};
+//! What every source of bytes keeps.
+
+ghost use Rattle.std.specs.Prelude.{◌≡◌, ◌≢◌, ℕ, ◌<◌, ◌≤◌, List, [], length, take, Option, Some, IfSome};
 ghost use Rattle.gc_io.specs.Faults.{HasRisen};
 ghost use Rattle.gc_io.specs.Streams.{GivesUp};
 ghost use Rattle.gc_io.specs.declared.source.Taken.TheVariants.{Bytes, End, Failed};
@@ -10,7 +12,7 @@ pub enum Taken {
     Bytes(usize),
     /// There is nothing left.
     End,
-    /// A fault; nothing was given, and the source may be asked again.
+    /// A fault; nothing was taken, and the source may be asked again.
     Failed,
 }
 
@@ -26,11 +28,13 @@ pub trait Source {
     fn take(&mut self, room: &mut [u8]) -> Taken
         requires { 0 < length room.old }
         ensures some { (count : ℕ) → result ≡ Bytes count → (0 < count) × (count ≤ length room.new) }
-        ensures given { (count : ℕ) → result ≡ Bytes count
+        ensures bytes { (count : ℕ) → result ≡ Bytes count
             → GivesUp (rest self.old) (rest self.new) (take count room.new) }
         ensures end { result ≡ End → IfSome (rest self.old) (λ bytes. bytes ≡ []) }
         ensures end_stays { result ≡ End → rest self.new ≡ rest self.old }
         ensures failed { result ≡ Failed → HasRisen (faults self.old) (faults self.new) }
         ensures failed_stays { result ≡ Failed → rest self.new ≡ rest self.old }
+        // Each fault that was counted is told.
+        ensures quiet { result ≢ Failed → faults self.new ≡ faults self.old }
         ensures never_falls { faults self.old ≤ faults self.new };
 }

@@ -1,4 +1,6 @@
-ghost use Rattle.std.specs.Prelude.{◌≡◌, ◌≤◌, [], None, ◌↔◌, IsTrue};
+//! Std's writers as sinks. A fault is whatever isn't an interrupt by a signal.
+
+ghost use Rattle.std.specs.Prelude.{◌≡◌, ◌≢◌, ◌≤◌, [], None, ◌↔◌, IsTrue};
 ghost use Rattle.std.specs.Io.KnownBytes.{Appends, Keeps};
 ghost use Rattle.gc_io.specs.Adapter.{AppendsFirst};
 ghost use Rattle.gc_io.specs.Faults.{HasRisen};
@@ -39,8 +41,9 @@ impl<W: Write + Drop> StdSink<W> {
 
     /// Flushes the writer, after the last piece.
     pub fn finish(&mut self) -> Put
-        ensures kept { Keeps (W.contents self.old.inner) (W.contents self.new.inner) }
+        ensures contents { Keeps (W.contents self.old.inner) (W.contents self.new.inner) }
         ensures failed { result ≡ Failed → HasRisen self.old.faults self.new.faults }
+        ensures quiet { result ≢ Failed → self.new.faults ≡ self.old.faults }
         ensures never_falls { self.old.faults ≤ self.new.faults }
         ensures count { self.new.faults ≡ faults_after self.old.faults result }
     {
@@ -53,6 +56,7 @@ impl<W: Write + Drop> StdSink<W> {
         ensures answer { IsTrue done ↔ (result ≡ All) }
         ensures inner { self.new.inner ≡ self.old.inner }
         ensures failed { result ≡ Failed → HasRisen self.old.faults self.new.faults }
+        ensures quiet { result ≢ Failed → self.new.faults ≡ self.old.faults }
         ensures never_falls { self.old.faults ≤ self.new.faults }
         ensures count { self.new.faults ≡ faults_after self.old.faults result }
     {
@@ -79,6 +83,7 @@ impl<W: Write + Drop> Sink for StdSink<W> {
         ensures first_bytes { result ≡ Failed
             → AppendsFirst (W.contents self.old.inner) (W.contents self.new.inner) piece.now }
         ensures empty { piece.now ≡ [] → result ≡ All }
+        ensures quiet { result ≢ Failed → self.new.faults ≡ self.old.faults }
         ensures never_falls { self.old.faults ≤ self.new.faults }
 
         ensures count { self.new.faults ≡ faults_after self.old.faults result }

@@ -1,4 +1,6 @@
-ghost use Rattle.std.specs.Prelude.{◌≡◌, ℕ, ◌<◌, ◌≤◌, length, take, Some, None, IfNone, IfSome};
+//! Std's readers as sources. A fault is whatever isn't an interrupt by a signal.
+
+ghost use Rattle.std.specs.Prelude.{◌≡◌, ◌≢◌, ℕ, ◌<◌, ◌≤◌, length, take, Some, None, IfNone, IfSome};
 ghost use Rattle.std.specs.Io.KnownBytes.{Keeps, Consumes, IsAtEnd};
 ghost use Rattle.gc_io.specs.Faults.{HasRisen};
 ghost use Rattle.gc_io.specs.declared.source.Taken.TheVariants.{Bytes, End, Failed};
@@ -44,12 +46,13 @@ impl<R: Read + Drop> Source for StdSource<R> {
     fn take(&mut self, room: &mut [u8]) -> Taken
         requires { 0 < length room.old }
         ensures some { (count : ℕ) → result ≡ Bytes count → (0 < count) × (count ≤ length room.new) }
-        ensures given { (count : ℕ) → result ≡ Bytes count
+        ensures bytes { (count : ℕ) → result ≡ Bytes count
             → Consumes (R.remaining self.old.inner) (R.remaining self.new.inner) (take count room.new) }
         ensures end { result ≡ End → IsAtEnd (R.remaining self.new.inner) }
         ensures failed { result ≡ Failed → HasRisen self.old.faults self.new.faults }
         ensures failed_stays { result ≡ Failed
             → Keeps (R.remaining self.old.inner) (R.remaining self.new.inner) }
+        ensures quiet { result ≢ Failed → self.new.faults ≡ self.old.faults }
         ensures never_falls { self.old.faults ≤ self.new.faults }
 
         ensures count { self.new.faults ≡ faults_after self.old.faults result }
@@ -68,7 +71,7 @@ impl<R: Read + Drop> Source for StdSource<R> {
 /// One read, again where a signal interrupts it. None is a fault.
 fn read_once<R: Read>(reader: &mut R, room: &mut [u8]) -> Option<usize>
     ensures within { IfSome result (λ count. count ≤ length room.new) }
-    ensures given { IfSome result (λ count.
+    ensures bytes { IfSome result (λ count.
         Consumes (R.remaining reader.old) (R.remaining reader.new) (take count room.new)) }
     ensures end { 0 < length room.old → result ≡ Some 0 → IsAtEnd (R.remaining reader.new) }
     ensures failed { IfNone result (Keeps (R.remaining reader.old) (R.remaining reader.new)) }

@@ -1,8 +1,10 @@
+//! A source in memory that never fails.
+
 ghost use Rattle.std.specs.Prelude.{◌≡◌, ◌≢◌, ℕ, ◌<◌, ◌≤◌, [], length, take, Some};
 ghost use Rattle.gc_io.specs.Streams.{GivesUp};
 ghost use Rattle.gc_io.specs.declared.source.Taken.TheVariants.{Bytes, End, Failed};
 
-use crate::held::Held;
+use crate::unread::Unread;
 use crate::{Source, Taken};
 use std::marker::Model;
 
@@ -10,7 +12,7 @@ use std::marker::Model;
 /// bytes that are left.
 #[derive(Debug, Drop)]
 pub struct SteadySource {
-    held: Held,
+    unread: Unread,
 }
 
 impl Model for SteadySource {
@@ -18,7 +20,7 @@ impl Model for SteadySource {
 
     ghost Value = { List ℕ };
 
-    ghost view = { λ s. s.held };
+    ghost view = { λ s. s.unread };
 }
 
 impl SteadySource {
@@ -27,13 +29,13 @@ impl SteadySource {
         ensures { result ≡ bytes.items }
     {
         SteadySource {
-            held: Held::make(bytes),
+            unread: Unread::make(bytes),
         }
     }
 }
 
 impl Source for SteadySource {
-    ghost use Rattle.gc_io.specs.Supply.{given_of, rest_after};
+    ghost use Rattle.gc_io.specs.Supply.{steady_answer, rest_after};
 
     ghost rest = { λ s. Some s };
 
@@ -43,16 +45,16 @@ impl Source for SteadySource {
     fn take(&mut self, room: &mut [u8]) -> Taken
         requires { 0 < length room.old }
         ensures some { (count : ℕ) → result ≡ Bytes count → (0 < count) × (count ≤ length room.new) }
-        ensures given { (count : ℕ) → result ≡ Bytes count
+        ensures bytes { (count : ℕ) → result ≡ Bytes count
             → GivesUp (Some self.old) (Some self.new) (take count room.new) }
         ensures end { result ≡ End → self.old ≡ [] }
         ensures never_fails { result ≢ Failed }
-        ensures answer { result ≡ given_of self.old (length room.old) }
+        ensures answer { result ≡ steady_answer self.old (length room.old) }
         ensures rest { self.new ≡ rest_after self.old result }
     {
-        if self.held.left().is_empty() {
+        if self.unread.left().is_empty() {
             return Taken::End;
         }
-        Taken::Bytes(self.held.give(usize::MAX, room))
+        Taken::Bytes(self.unread.read(usize::MAX, room))
     }
 }

@@ -1,3 +1,5 @@
+//! Sources and sinks in memory, and the adapters over a device that is interrupted, stuck, not ready or broken.
+
 use crate::{
     Gate, MemorySink, MemorySource, OpenGate, Put, Sink, Source, StdSink, StdSource, SteadySource,
     Taken,
@@ -11,6 +13,7 @@ use std::test::Fail;
 enum Step {
     Moves(usize),
     Interrupted,
+    NotReady,
     Broken,
 }
 
@@ -29,6 +32,7 @@ impl<'a> Device<'a> {
         match step {
             Step::Moves(count) => Ok(*count),
             Step::Interrupted => Err(io::Error::from(ErrorKind::Interrupted)),
+            Step::NotReady => Err(io::Error::from(ErrorKind::WouldBlock)),
             Step::Broken => Err(io::Error::other("broken")),
         }
     }
@@ -121,11 +125,37 @@ fn std_source_reads_to_the_end(rt: HostRuntime) {
 }
 
 #[test]
-fn std_source_reads_again_after_an_interrupt(rt: HostRuntime) {
-    let steps = [Step::Interrupted, Step::Moves(2), Step::Broken];
+fn std_source_reads_again_after_interrupts(rt: HostRuntime) {
+    let steps = [
+        Step::Interrupted,
+        Step::Moves(2),
+        Step::Interrupted,
+        Step::Interrupted,
+        Step::Moves(3),
+        Step::Interrupted,
+        Step::Interrupted,
+        Step::Broken,
+        Step::Moves(1),
+    ];
     let mut source = StdSource::make(Device { steps: &steps });
     let mut room = [0; 4];
-    for answer in [Taken::Bytes(2), Taken::Failed, Taken::End] {
+    for answer in [
+        Taken::Bytes(2),
+        Taken::Bytes(3),
+        Taken::Failed,
+        Taken::Bytes(1),
+        Taken::End,
+    ] {
+        assert_eq!(rt; source.take(&mut room), answer);
+    }
+}
+
+#[test]
+fn std_source_fails_where_the_reader_is_not_ready(rt: HostRuntime) {
+    let steps = [Step::NotReady, Step::Moves(2), Step::NotReady];
+    let mut source = StdSource::make(Device { steps: &steps });
+    let mut room = [0; 4];
+    for answer in [Taken::Failed, Taken::Bytes(2), Taken::Failed, Taken::End] {
         assert_eq!(rt; source.take(&mut room), answer);
     }
 }
@@ -145,10 +175,21 @@ fn std_sink_writes_every_piece(rt: HostRuntime) -> Result<(), Fail> {
 #[test]
 fn std_sink_fails_where_the_writer_does(rt: HostRuntime) {
     let whole = [Step::Moves(1), Step::Interrupted, Step::Moves(2)];
+    let interrupted = [
+        Step::Interrupted,
+        Step::Interrupted,
+        Step::Moves(1),
+        Step::Interrupted,
+        Step::Interrupted,
+        Step::Moves(2),
+    ];
+    let not_ready = [Step::Moves(1), Step::NotReady, Step::Moves(2)];
     let stuck = [Step::Moves(1), Step::Moves(0)];
-    let broken = [Step::Moves(1), Step::Broken];
+    let broken = [Step::Moves(1), Step::Broken, Step::Moves(2)];
     for (steps, answer) in [
         (whole.as_slice(), Put::All),
+        (interrupted.as_slice(), Put::All),
+        (not_ready.as_slice(), Put::Failed),
         (stuck.as_slice(), Put::Failed),
         (broken.as_slice(), Put::Failed),
     ] {
@@ -159,10 +200,29 @@ fn std_sink_fails_where_the_writer_does(rt: HostRuntime) {
 
 #[test]
 fn std_sink_tells_a_failed_flush(rt: HostRuntime) {
-    let steps = [Step::Interrupted, Step::Moves(0), Step::Broken];
+    let steps = [
+        Step::Interrupted,
+        Step::Moves(0),
+        Step::Interrupted,
+        Step::Interrupted,
+        Step::Moves(0),
+        Step::Broken,
+        Step::NotReady,
+        Step::Interrupted,
+        Step::Interrupted,
+        Step::Broken,
+    ];
     let mut sink = StdSink::make(Device { steps: &steps });
-    assert_eq!(rt; sink.finish(), Put::All);
-    assert_eq!(rt; sink.finish(), Put::Failed);
+    for answer in [
+        Put::All,
+        Put::All,
+        Put::Failed,
+        Put::Failed,
+        Put::Failed,
+        Put::All,
+    ] {
+        assert_eq!(rt; sink.finish(), answer);
+    }
 }
 
 #[test]

@@ -13,8 +13,18 @@ mod memory;
 pub use memory::run_in_memory;
 
 #[cfg(test)]
+mod doubles;
+#[cfg(test)]
+mod failures;
+#[cfg(test)]
 mod graph;
 #[cfg(test)]
+mod refusals;
+#[cfg(test)]
 mod row;
+#[cfg(test)]
+mod scripts;
+#[cfg(test)]
+mod sizes;
 #[cfg(test)]
 mod tests;

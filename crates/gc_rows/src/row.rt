@@ -1,4 +1,6 @@
-ghost use Rattle.std.specs.Prelude.{◌≤◌};
+//! Worked rows as data, and what hands them to the top call.
+
+ghost use Rattle.gc_cli.specs.Played.{AreAllowed};
 
 use crate::run_in_memory;
 use gc_cli::{Opts, Status, play_bytes};
@@ -7,7 +9,20 @@ use std::process::Abort;
 use std::test::Fail;
 
 /// The most bytes that a script prints here.
-const MOST_PRINTED: usize = 65_536;
+const MOST_PRINTED: usize = 4_194_304;
+
+/// A box is made, set and asked.
+pub const ONE_BOX: &str = "moar-gc 1\n\
+     mutators 1\n\
+     type box 0 1\n\
+     0 new r0 box\n\
+     0 set r0 0 42\n\
+     0 ask r0 0\n";
+
+/// What it prints.
+pub const ONE_BOX_OUTPUT: &str = "4 done\n\
+     5 done\n\
+     6 42\n";
 
 /// The words of most rows.
 const PLAY: &[&str] = &["play"];
@@ -20,9 +35,8 @@ pub struct Row {
     script: &'static str,
     /// The most bytes that a call of the source gives.
     step: usize,
-    /// The calls of the source and of the output that fail, counted from 1.
+    /// The calls of the source that fail, counted from 1.
     failing_reads: &'static [u32],
-    failing_writes: &'static [u32],
     output: &'static str,
     error: &'static str,
     status: u8,
@@ -37,7 +51,6 @@ impl Row {
             script,
             step: 65_536,
             failing_reads: &[],
-            failing_writes: &[],
             output,
             error: "",
             status: 0,
@@ -68,31 +81,9 @@ impl Row {
         }
     }
 
-    /// The same script from a source that gives so many bytes a call and fails at these calls.
-    pub fn with_reads(self, step: usize, failing_reads: &'static [u32]) -> Row {
-        Row {
-            step,
-            failing_reads,
-            ..self
-        }
-    }
-
-    /// The same script, where these writes fail.
-    pub fn with_writes(self, failing_writes: &'static [u32]) -> Row {
-        Row {
-            failing_writes,
-            ..self
-        }
-    }
-
-    /// The same script, which ends so.
-    pub fn ends(self, output: &'static str, error: &'static str, status: u8) -> Row {
-        Row {
-            output,
-            error,
-            status,
-            ..self
-        }
+    /// The same script from a source that gives at most so many bytes a call.
+    pub fn with_step(self, step: usize) -> Row {
+        Row { step, ..self }
     }
 
     /// Hands the row to the top call, and compares what comes of it.
@@ -105,7 +96,7 @@ impl Row {
         assert!(rt; self.step > 0, "the step of {}", self.name);
         let script = self.script.as_bytes().to_vec(alloc)?;
         let mut src = MemorySource::make(script, self.step, self.failing_reads.to_vec(alloc)?);
-        let mut out = MemorySink::make(alloc, MOST_PRINTED, self.failing_writes.to_vec(alloc)?)?;
+        let mut out = MemorySink::make(alloc, MOST_PRINTED, Vec::new(alloc))?;
         let mut err = MemorySink::make(alloc, 256, Vec::new(alloc))?;
         let outcome = run_in_memory(rt, alloc, words.as_slice(), &mut src, &mut out, &mut err);
         let code = outcome.status.code();
@@ -126,24 +117,19 @@ impl Row {
     }
 }
 
-/// What a script that is played to its end prints, where a half has so many words.
+/// What a script that is played to its end prints, on the heap that these options ask for.
 pub fn printed<R: Abort + AllocGlobal>(
     rt: &R,
     name: &str,
     script: &[u8],
-    half: u32,
+    opts: &Opts,
 ) -> Result<MemorySink, Fail>
-    requires least { 64 ≤ half }
-    requires most { half ≤ 65536 }
+    requires { AreAllowed opts.now }
 {
     let alloc = rt.alloc();
-    let opts = Opts {
-        nursery: half,
-        ..Opts::DEFAULT
-    };
     let mut src = SteadySource::make(script.to_vec(alloc)?);
     let mut out = MemorySink::make(alloc, MOST_PRINTED, Vec::new(alloc))?;
-    let outcome = play_bytes(alloc, &opts, &mut src, &mut out);
+    let outcome = play_bytes(alloc, opts, &mut src, &mut out);
     assert_eq!(rt; outcome.status, Status::Done, "the status of {name}");
     Ok(out)
 }

@@ -5,10 +5,10 @@ use Rattle.gc_cli.proofs.input.read_input.Given as goal
 -- the bytes so far are what the source has given
 abbrev pub invariant-loop-bytes : goal.invariant-loop-bytes
 invariant-loop-bytes g l = record {
-  given : GivesUp (g.S.Source.rest l.fn.src) (g.S.Source.rest l.src) l.bytes.items;
+  gave : GivesUp (g.S.Source.rest l.fn.src) (g.S.Source.rest l.src) l.bytes.items;
   few : vec_len l.bytes ≤ 16777217;
   room : vec_len l.room ≡ 65536;
-  never_falls : g.S.Source.faults l.fn.src ≤ g.S.Source.faults l.src;
+  quiet : g.S.Source.faults l.src ≡ g.S.Source.faults l.fn.src;
 }
 
 abbrev pub decreases-loop-bytes : goal.decreases-loop-bytes

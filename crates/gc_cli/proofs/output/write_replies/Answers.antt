@@ -1,22 +1,25 @@
-use Rattle.std.proofs.Common.{arith, append_assoc}
+-- the text so far, and the next line of it
+use Rattle.std.proofs.Common.{◌∙◌, arith, append_assoc}
 use Rattle.gc_io.proofs.StreamLemmas.{Appends-append, AppendsPrefix-behind}
 use Rattle.gc_cli.proofs.PlayLemmas.{slice_get-below, lines_text-next}
 use Rattle.gc_cli.proofs.output.write_replies.Goals as goal
 
 pub returns-in-Failed-clause-part : goal.returns-in-Failed-clause-part
 returns-in-Failed-clause-part g c = λ _.
-    let kept = c.loop-place.invariant in
-    let reply = slice_get-below c.args.replies.now c.loop-place.place (omega arith) in
-    let next = rw (lines_text-next c.args.script.now c.args.replies.now c.loop-place.place reply.0 reply.1) at kept.2 in
-    AppendsPrefix-behind _ _ _ kept.0 _ _ _ kept.1 (c.write_reply.ensures.part reply.0 reply.1 c.in-Failed.is) next
+    let so_far = c.loop-index.invariant in
+    let (reply, there) = slice_get-below c.args.replies.now c.loop-index.index (omega arith) in
+    let next = rw (lines_text-next c.args.script.now c.args.replies.now c.loop-index.index reply there) at so_far.whole in
+    let first = c.write_reply.ensures.part reply there c.in-Failed.is in
+    AppendsPrefix-behind _ _ _ so_far.text _ _ _ so_far.appended first next
 
-pub loop-place-preserved : goal.loop-place-preserved
-loop-place-preserved g c =
-    let kept = c.loop-place.invariant in
-    let reply = slice_get-below c.args.replies.now c.loop-place.place (omega arith) in
-    let next = rw (lines_text-next c.args.script.now c.args.replies.now c.loop-place.place reply.0 reply.1) at kept.2 in (
-      _,
-      Appends-append _ _ _ kept.0 _ kept.1 (c.write_reply.ensures.all reply.0 reply.1 c.in-All.is),
-      rw append_assoc next,
-      omega (arith, kept.3, c.write_reply.ensures.never_falls),
-    )
+pub loop-index-preserved : goal.loop-index-preserved
+loop-index-preserved g c =
+    let so_far = c.loop-index.invariant in
+    let (reply, there) = slice_get-below c.args.replies.now c.loop-index.index (omega arith) in
+    let next = rw (lines_text-next c.args.script.now c.args.replies.now c.loop-index.index reply there) at so_far.whole in
+    record {
+      text = _;
+      appended = Appends-append _ _ _ so_far.text _ so_far.appended (c.write_reply.ensures.all reply there c.in-All.is);
+      whole = rw append_assoc next;
+      quiet = c.write_reply.ensures.quiet c.in-All.is ∙ so_far.quiet;
+    }

@@ -1,3 +1,4 @@
+-- what was written so far, and the next bytes of the piece
 use Rattle.std.proofs.Common.{◌≡◌, ◌+◌, ◌∙◌, List, ℕ, Option, length, take, drop, arith, subst, ap, length-drop}
 use Rattle.std.proofs.Math.Seq.{take-add}
 use Rattle.std.proofs.lemmas.List.{take_rest, drop-drop}
@@ -7,9 +8,12 @@ use Rattle.gc_io.proofs.std_sink.write_whole.Goals as goal
 use Rattle.gc_io.proofs.std_sink.write_whole.Goals.{in-Ok, in-Err+else-ne}
 
 -- the next bytes of a piece, behind those that were appended already
-Appends-next : (piece rest : List ℕ) (count more : ℕ) (first middle last : Option (List ℕ)) → rest ≡ drop count piece → Appends first middle (take count piece) → Appends middle last (take more rest) → Appends first last (take (count + more) piece)
+Appends-next : (piece rest : List ℕ) (count more : ℕ) (first middle last : Option (List ℕ))
+    → rest ≡ drop count piece → Appends first middle (take count piece) → Appends middle last (take more rest)
+    → Appends first last (take (count + more) piece)
 Appends-next piece rest count more first middle last same before next =
-    rw take-add (Appends-trans _ _ _ _ _ before (subst (λ (bytes : List ℕ). Appends middle last (take more bytes)) same next))
+    let after = subst (λ (bytes : List ℕ). Appends middle last (take more bytes)) same next in
+    rw take-add (Appends-trans _ _ _ _ _ before after)
 
 pub loop-preserved : goal.loop-preserved
 loop-preserved g c =

@@ -1,0 +1,222 @@
+//! Each size that may be asked for: the mutators, the pages, the halves, and the bytes of a script.
+
+ghost use Rattle.std.specs.Prelude.{◌≡◌, ◌<◌, ◌≤◌};
+ghost use Rattle.gc_cli.specs.Played.{AreAllowed};
+
+use crate::row::printed;
+use crate::run_in_memory;
+use gc_cli::{Opts, Status};
+use gc_io::{MemorySink, MemorySource};
+use std::alloc::{AllocError, Global};
+use std::fmt::Write;
+use std::process::Abort;
+use std::test::Fail;
+
+/// The most bytes of a script.
+const MOST_BYTES: usize = 16_777_216;
+
+/// The options that ask for halves of so many words and so many pages.
+fn heap(nursery: u32, pages: u16) -> Opts
+    requires least { 64 ≤ nursery }
+    requires most { nursery ≤ 65536 }
+    requires some { 1 ≤ pages }
+    requires few { pages ≤ 128 }
+    ensures { AreAllowed result }
+{
+    Opts {
+        nursery,
+        pages,
+        ..Opts::DEFAULT
+    }
+}
+
+/// A script in which each mutator makes a box, sets it and shares it, and then asks its neighbour's; and what it
+/// prints.
+fn neighbours(alloc: Global, mutators: u64) -> Result<(String, String), AllocError>
+    requires { 0 < mutators }
+{
+    let mut script = String::new(alloc);
+    let mut output = String::new(alloc);
+    writeln!(script, "moar-gc 1\nmutators {mutators}\ntype box 0 1")?;
+    let mut number = 4u64;
+    for t in 0..mutators {
+        writeln!(script, "{t} new r0 box\n{t} set r0 0 {t}\n{t} share {t} r0")?;
+        for _ in 0..3 {
+            writeln!(output, "{number} done")?;
+            number = number.saturating_add(1);
+        }
+    }
+    for t in 0..mutators {
+        let neighbour = t.saturating_add(1) % mutators;
+        writeln!(script, "{t} take r1 {neighbour}\n{t} ask r1 0")?;
+        writeln!(output, "{number} done")?;
+        number = number.saturating_add(1);
+        writeln!(output, "{number} {neighbour}")?;
+        number = number.saturating_add(1);
+    }
+    Ok((script, output))
+}
+
+#[test]
+fn each_size_is_played(rt: HostRuntime) -> Result<(), Fail> {
+    for mutators in 1..=8u64 {
+        let (script, output) = neighbours(rt.alloc(), mutators)?;
+        for half in [64, 65, 1000, 4096, 65_536] {
+            for pages in [1, 2, 8, 127, 128] {
+                assert!(rt; 64 <= half && half <= 65_536 && 1 <= pages && pages <= 128);
+                let name = format!(in rt.alloc();
+                    "{mutators} with {half} words and {pages} pages"
+                )?;
+                let out = printed(&rt, name.as_str(), script.as_bytes(), &heap(half, pages))?;
+                assert_eq!(rt; out.bytes(), output.as_bytes(), "{name}");
+            }
+        }
+    }
+    Ok(())
+}
+
+#[test]
+fn the_greatest_heap_is_filled(rt: HostRuntime) -> Result<(), Fail> {
+    let alloc = rt.alloc();
+    let mut script = String::new(alloc);
+    let mut output = String::new(alloc);
+    script.push_str("moar-gc 1\nmutators 8\ntype wide 0 62\n")?;
+    let mut number = 4u64;
+
+    // A half of 65,536 words has room for 1,024 objects of 64 words.
+    for reply in ["done"; 1024].iter().chain(["full"; 2].iter()) {
+        for t in 0..8u8 {
+            writeln!(script, "{t} new r0 wide")?;
+            writeln!(output, "{number} {reply}")?;
+            number = number.saturating_add(1);
+        }
+    }
+    let out = printed(
+        &rt,
+        "the greatest heap",
+        script.as_bytes(),
+        &heap(65_536, 128),
+    )?;
+    assert!(rt; out.bytes() == output.as_bytes());
+    Ok(())
+}
+
+#[test]
+fn a_full_half_is_told(rt: HostRuntime) -> Result<(), Fail> {
+    for (script, output) in [
+        // The wide object takes 63 of the half's 64 words, so nothing else fits.
+        (
+            "moar-gc 1\n\
+             mutators 1\n\
+             type wide 61 0\n\
+             type none 0 0\n\
+             0 new r0 wide\n\
+             0 new r1 none\n\
+             0 new r1 wide\n\
+             0 ask r1 0\n",
+            "5 done\n\
+             6 full\n\
+             7 full\n\
+             8 nil base\n",
+        ),
+        // Each mutator has a half of its own.
+        (
+            "moar-gc 1\n\
+             mutators 2\n\
+             type wide 61 0\n\
+             type none 0 0\n\
+             0 new r0 wide\n\
+             0 new r1 none\n\
+             1 new r0 wide\n\
+             1 new r1 none\n\
+             0 same r0 r1\n",
+            "5 done\n\
+             6 full\n\
+             7 done\n\
+             8 full\n\
+             9 no\n",
+        ),
+        // The two take 62 and 2 words, so they fill the half to its last word.
+        (
+            "moar-gc 1\n\
+             mutators 8\n\
+             type wide 60 0\n\
+             type none 0 0\n\
+             7 new r0 wide\n\
+             7 new r1 none\n\
+             7 new r2 none\n\
+             6 new r2 none\n",
+            "5 done\n\
+             6 done\n\
+             7 full\n\
+             8 done\n",
+        ),
+        // What is full leaves the register as it was, and a smaller object may still have its place.
+        (
+            "moar-gc 1\n\
+             mutators 1\n\
+             type wide 40 18\n\
+             type pair 2 0\n\
+             0 new r0 wide\n\
+             0 set r0 17 3\n\
+             0 new r0 wide\n\
+             0 new r1 pair\n\
+             0 ask r0 17\n\
+             0 put r0 39 r1\n\
+             0 get r2 r0 39\n\
+             0 same r1 r2\n\
+             0 new r1 pair\n\
+             0 same r1 r2\n",
+            "5 done\n\
+             6 done\n\
+             7 full\n\
+             8 done\n\
+             9 3\n\
+             10 done\n\
+             11 done\n\
+             12 yes\n\
+             13 full\n\
+             14 yes\n",
+        ),
+    ] {
+        let out = printed(&rt, script, script.as_bytes(), &heap(64, 8))?;
+        assert_eq!(rt; out.bytes(), output.as_bytes(), "at {script:?}");
+    }
+    Ok(())
+}
+
+/// The text of so many bytes, which is no script: the status it ends with, and its line.
+fn refused<R: Abort + AllocGlobal>(rt: &R, count: usize) -> Result<(Status, MemorySink), Fail> {
+    let alloc = rt.alloc();
+    let mut words = Vec::new(alloc);
+    words.push("play".to_string(alloc)?)?;
+    let text = vec![in alloc; b'a'; count]?;
+    let mut src = MemorySource::make(text, 100_000, Vec::new(alloc));
+    let mut out = MemorySink::make(alloc, 64, Vec::new(alloc))?;
+    let mut err = MemorySink::make(alloc, 64, Vec::new(alloc))?;
+    let outcome = run_in_memory(rt, alloc, words.as_slice(), &mut src, &mut out, &mut err);
+    assert_eq!(rt; out.bytes().len(), 0);
+    Ok((outcome.status, err))
+}
+
+#[test]
+fn a_script_that_is_too_long_is_told(rt: HostRuntime) -> Result<(), Fail> {
+    for (count, status, line) in [
+        (
+            MOST_BYTES,
+            Status::Bad { line: 1, cause: 1 },
+            "moar_gc: line 1: version\n",
+        ),
+        (MOST_BYTES + 1, Status::Long, "moar_gc: script too long\n"),
+        (
+            MOST_BYTES + 200_000,
+            Status::Long,
+            "moar_gc: script too long\n",
+        ),
+    ] {
+        let (ended, err) = refused(&rt, count)?;
+        assert_eq!(rt; ended, status);
+        assert_eq!(rt; err.bytes(), line.as_bytes());
+    }
+    Ok(())
+}
