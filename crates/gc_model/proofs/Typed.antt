@@ -108,5 +108,5 @@ pub typed-size : (types : List Shape) (world : World) → AreTypes types → IsW
     → All (λ object. object_size object ≤ 64) world.graph
 typed-size types world are_types typed index d below =
     let own = typed.objects index d below in
-    let small : size_of (shape_at types (slice_index_or world.graph index d).ty) ≤ 64 = are_types.small _ common_shape own.known in
+    let small : size_of (shape_at types (slice_index_or world.graph index d).ty) ≤ 64 = are_types.sizes _ common_shape own.known in
     omega (arith, small, own.slots, own.numbers)
