@@ -196,6 +196,7 @@ TakesCell-at pages class offset p n is it =
       used = used;
       others = others;
       least = it.least;
+      within = omega (arith, at, it.within);
       inside = omega (arith, start, ends);
       apart = λ own other was.
           let there = (others own other (λ e. unused (own, rw e at was))).1 was in

@@ -11,7 +11,7 @@ use Rattle.gc_gen2.specs.Page.{Page, IsWellFormedPage, free_page, is_free_page, 
 use Rattle.gc_gen2.specs.Cells.{IsWellFormed, page_at, used_cells, free_cells, first_page_with_room, class_at, page_for}
 use Rattle.gc_gen2.proofs.PageLemmas.{used_in-le, free_in-le, free_in-same, class-from_room, first_free_in-is}
 
--- the page in place of another, and the other pages
+-- the page that stands now where another stood, and the other pages
 pub page_at-set_same : (pages : List Page) (p : ℕ) (page : Page) → p < length pages → page_at (set pages p page) p ≡ page
 page_at-set_same pages p page within = get_or-set_same pages p page free_page within
 

@@ -113,7 +113,7 @@ AreInOrder-given pages w page are within given = record {
       ap is_free_page (page_at-set_other pages w q page elsewhere) ∙ are.unclassed q (omega arith);
 }
 
--- a page in place of another that differs in cells of one class alone, where the set and the count of that
+-- a page instead of another that differs in cells of one class alone, where the set and the count of that
 -- class, the count of all used cells and the number of pages with a class change as it does
 pub record ChangesPage (old new : Page) (class : ℕ) : Type 0 where
   pub well_formed : IsWellFormedPage new

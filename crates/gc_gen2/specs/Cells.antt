@@ -89,12 +89,13 @@ without_cell pages offset =
     (with_free (page_at pages (offset / 1024)) (number_of (class_at pages (offset / 1024)) offset))
 
 -- what it is to take a cell of a class: it wasn't used and now it is, no other cell changes, no free cell of the
--- class had a lesser offset, it ends inside its page, and it has no word of another used cell
+-- class had a lesser offset, it lies in one of the pages and ends inside it, and it has no word of another used cell
 pub record TakesCell (old new : List Page) (class offset : ℕ) : Type 0 where
   pub unused : ¬ IsUsed old offset
   pub used : IsUsedCell new class offset
   pub others : (own other : ℕ) → other ≢ offset → IsUsedCell new own other ↔ IsUsedCell old own other
   pub least : (other : ℕ) → IsFreeCell old class other → offset ≤ other
+  pub within : offset / 1024 < length old
   pub inside : offset % 1024 + class ≤ 1024
   pub apart : (own other : ℕ) → IsUsedCell old own other → (offset + class ≤ other) ⊎ (other + own ≤ offset)
   pub count : used_cells new ≡ used_cells old + 1

@@ -7,11 +7,11 @@ use Rattle.gc_gen2.proofs.PagesLemmas.{HasRoom-first, page_at-read, used_cells-l
 use Rattle.gc_gen2.proofs.SummaryLemmas.{IsSummary-filled, IsSummary-not_filled}
 use Rattle.gc_gen2.proofs.gen2.Gen2.take_in.Goals as goal
 
--- the page, as it was read and its first free cell taken
+-- the page that was read, where its first free cell is used now
 new_page : (pages : List Page) (i p n : ℕ) (page page' : Page) → i ≡ p → p < length pages → page ≡ get_or pages i page
     → n ≡ first_free_in page → page' ≡ with_used page n → page' ≡ with_used (page_at pages p) (first_free_in (page_at pages p))
-new_page pages i p n page page' same within read first taken =
-    taken ∙ ap (with_used page) first ∙ ap (λ x. with_used x (first_free_in x)) (page_at-read pages i p page same within read)
+new_page pages i p n page page' same within read first uses =
+    uses ∙ ap (with_used page) first ∙ ap (λ x. with_used x (first_free_in x)) (page_at-read pages i p page same within read)
 
 pub take_first-number-requires : goal.take_first-number-requires
 take_first-number-requires c =
