@@ -22,7 +22,11 @@ number_goes world t base place object named below =
     rw (named, lt-ltb place (length (object_at world.graph object).numbers) below) refl
 
 -- the address of the slot that is meant
-pub slot_address : (heap : Heap) (placement : Placement) (world : World) → ShowsBy heap placement world → (t base place address at : ℕ) (shape : Shape) → t < heap.places.mutators → address ≡ get_or (bay_at heap.bays t).registers base 0 → (address ≡ 0 → ⊥) → ((object : ℕ) → IsWordOf heap address placement world object 0 → shape ≡ shape_at heap.types.now (object_at world.graph object).ty) → place < shape.slots → at ≡ address + 2 + place → (object : ℕ) × IsSlot heap at placement world object t base place
+pub slot_address : (heap : Heap) (placement : Placement) (world : World) → ShowsBy heap placement world
+    → (t base place address at : ℕ) (shape : Shape) → t < heap.places.mutators → address ≡ get_or (bay_at heap.bays t).registers base 0
+    → (address ≡ 0 → ⊥) → ((object : ℕ) → IsWordOf heap address placement world object 0
+    → shape ≡ shape_at heap.types.now (object_at world.graph object).ty) → place < shape.slots → at ≡ address + 2 + place
+    → (object : ℕ) × IsSlot heap at placement world object t base place
 slot_address heap placement world shown t base place address at shape there registered some is below at_is =
     let object = named_object heap placement world shown t base address there registered some in
     let shaped = shaped_at heap.types.now heap.places heap.words.items heap.bays placement world shown object.0 object.2.in_graph in
@@ -30,14 +34,24 @@ slot_address heap placement world shown t base place address at shape there regi
     let within : place < length (object_at world.graph object.0).slots = omega (arith, below, slots, shaped.slots) in (
       object.0,
       record {
-        word = record { shown = shown; in_graph = object.2.in_graph; inside = omega (arith, within); address_is = omega (arith, at_is, object.2.address_is) };
+        word = record {
+          shown = shown;
+          in_graph = object.2.in_graph;
+          inside = omega (arith, within);
+          address_is =
+              omega (arith, at_is, object.2.address_is);
+        };
         within = within;
         owner = slot_goes world t base place object.0 object.1 within;
       },
     )
 
 -- the address of the number that is meant
-pub number_address : (heap : Heap) (placement : Placement) (world : World) → ShowsBy heap placement world → (t base place address at : ℕ) (shape : Shape) → t < heap.places.mutators → address ≡ get_or (bay_at heap.bays t).registers base 0 → (address ≡ 0 → ⊥) → ((object : ℕ) → IsWordOf heap address placement world object 0 → shape ≡ shape_at heap.types.now (object_at world.graph object).ty) → place < shape.numbers → at ≡ address + 2 + shape.slots + place → (object : ℕ) × IsNumber heap at placement world object t base place
+pub number_address : (heap : Heap) (placement : Placement) (world : World) → ShowsBy heap placement world
+    → (t base place address at : ℕ) (shape : Shape) → t < heap.places.mutators → address ≡ get_or (bay_at heap.bays t).registers base 0
+    → (address ≡ 0 → ⊥) → ((object : ℕ) → IsWordOf heap address placement world object 0
+    → shape ≡ shape_at heap.types.now (object_at world.graph object).ty) → place < shape.numbers → at ≡ address + 2 + shape.slots + place
+    → (object : ℕ) × IsNumber heap at placement world object t base place
 number_address heap placement world shown t base place address at shape there registered some is below at_is =
     let object = named_object heap placement world shown t base address there registered some in
     let shaped = shaped_at heap.types.now heap.places heap.words.items heap.bays placement world shown object.0 object.2.in_graph in
@@ -46,7 +60,13 @@ number_address heap placement world shown t base place address at shape there re
     let within : place < length (object_at world.graph object.0).numbers = omega (arith, below, numbers, shaped.numbers) in (
       object.0,
       record {
-        word = record { shown = shown; in_graph = object.2.in_graph; inside = omega (arith, within); address_is = omega (arith, at_is, object.2.address_is, slots, shaped.slots) };
+        word = record {
+          shown = shown;
+          in_graph = object.2.in_graph;
+          inside = omega (arith, within);
+          address_is =
+              omega (arith, at_is, object.2.address_is, slots, shaped.slots);
+        };
         within = within;
         owner = number_goes world t base place object.0 object.1 within;
       },

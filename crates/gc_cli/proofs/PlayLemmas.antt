@@ -39,28 +39,40 @@ take-at (y ∷ xs) zero x h = cc
 take-at {X = X} (y ∷ xs) (suc i) x h = ap (λ (zs : List X). y ∷ zs) (take-at xs i x h)
 
 -- the world after some lines and more is that after the more
-world_after-append : (types : List Shape) (nursery : ℕ) (world : World) (lines more : List Line) → world_after_lines types nursery world (lines ++ more) ≡ world_after_lines types nursery (world_after_lines types nursery world lines) more
+world_after-append : (types : List Shape) (nursery : ℕ) (world : World) (lines more : List Line)
+    → world_after_lines types nursery world (lines ++ more) ≡ world_after_lines types nursery
+    (world_after_lines types nursery world lines) more
 world_after-append types nursery world lines more =
     fold-append (λ (before : World) (line : Line). (answer_to types nursery before line).world) world lines more
 
 -- and the replies to them stand behind one another
-replies_of-append : (types : List Shape) (nursery : ℕ) (world : World) (lines more : List Line) → replies_of types nursery world (lines ++ more) ≡ replies_of types nursery world lines ++ replies_of types nursery (world_after_lines types nursery world lines) more
+replies_of-append : (types : List Shape) (nursery : ℕ) (world : World) (lines more : List Line)
+    → replies_of types nursery world (lines ++ more) ≡ replies_of types nursery world lines ++ replies_of types nursery
+    (world_after_lines types nursery world lines) more
 replies_of-append types nursery world [] more = refl
 replies_of-append types nursery world (line ∷ lines) more =
-    ap (λ (replies : List Reply). (answer_to types nursery world line).reply ∷ replies) (replies_of-append types nursery (answer_to types nursery world line).world lines more)
+    ap (λ (replies : List Reply). (answer_to types nursery world line).reply ∷ replies)
+    (replies_of-append types nursery (answer_to types nursery world line).world lines more)
 
 -- the world after one more line
-pub world_after-next : (types : List Shape) (nursery : ℕ) (world : World) (lines : List Line) (i : ℕ) (line : Line) → slice_get lines i ≡ Some line → world_after_lines types nursery world (take (i + 1) lines) ≡ (answer_to types nursery (world_after_lines types nursery world (take i lines)) line).world
+pub world_after-next : (types : List Shape) (nursery : ℕ) (world : World) (lines : List Line) (i : ℕ) (line : Line)
+    → slice_get lines i ≡ Some line → world_after_lines types nursery world (take (i + 1) lines) ≡
+    (answer_to types nursery (world_after_lines types nursery world (take i lines)) line).world
 world_after-next types nursery world lines i line h =
     rw (add-one i, take-at lines i line h) (world_after-append types nursery world (take i lines) (line ∷ []))
 
 -- and one more reply
-pub replies_of-next : (types : List Shape) (nursery : ℕ) (world : World) (lines : List Line) (i : ℕ) (line : Line) → slice_get lines i ≡ Some line → replies_of types nursery world (take (i + 1) lines) ≡ replies_of types nursery world (take i lines) ++ (answer_to types nursery (world_after_lines types nursery world (take i lines)) line).reply ∷ []
+pub replies_of-next : (types : List Shape) (nursery : ℕ) (world : World) (lines : List Line) (i : ℕ) (line : Line)
+    → slice_get lines i ≡ Some line → replies_of types nursery world (take (i + 1) lines) ≡ replies_of types nursery world
+    (take i lines) ++ (answer_to types nursery (world_after_lines types nursery world (take i lines)) line).reply ∷ []
 replies_of-next types nursery world lines i line h =
     rw (add-one i, take-at lines i line h) (replies_of-append types nursery world (take i lines) (line ∷ []))
 
 -- the history of a script's lines and the Ends after them is legal, fits the script, and has these replies
-pub uncollected-played : (opts : Opts) (script : Script) (replies : List Reply) → 1 ≤ script.preamble.mutators → 1 ≤ opts.pages → All (IsFitLine script.preamble) script.lines → All (λ line. IsBuilt line.call) script.lines → replies ≡ replies_of script.preamble.types opts.nursery (first_world script.preamble.mutators) script.lines → (history : History) × IsHistoryOf opts script history × (replies ≡ replies_by_line history [] script.lines)
+pub uncollected-played : (opts : Opts) (script : Script) (replies : List Reply) → 1 ≤ script.preamble.mutators → 1 ≤ opts.pages
+    → All (IsFitLine script.preamble) script.lines → All (λ line. IsBuilt line.call) script.lines
+    → replies ≡ replies_of script.preamble.types opts.nursery (first_world script.preamble.mutators) script.lines
+    → (history : History) × IsHistoryOf opts script history × (replies ≡ replies_by_line history [] script.lines)
 uncollected-played opts script replies some pages fit built is =
     let types = script.preamble.types in
     let mutators = script.preamble.mutators in
@@ -78,13 +90,18 @@ uncollected-played opts script replies some pages fit built is =
     )
 
 -- an answer by the same types and the same half is the same
-pub answered-alike : (heap : Heap) (reply : Reply) (types old_types : List Shape) (nursery old_nursery : ℕ) (world : World) (line : Line) → types ≡ old_types → nursery ≡ old_nursery → IsAnswered heap reply (answer_to types nursery world line) → IsAnswered heap reply (answer_to old_types old_nursery world line)
+pub answered-alike : (heap : Heap) (reply : Reply) (types old_types : List Shape) (nursery old_nursery : ℕ) (world : World) (line : Line)
+    → types ≡ old_types → nursery ≡ old_nursery → IsAnswered heap reply (answer_to types nursery world line)
+    → IsAnswered heap reply (answer_to old_types old_nursery world line)
 answered-alike heap reply types old_types nursery old_nursery world line same half given =
     subst (λ (n : ℕ). IsAnswered heap reply (answer_to old_types n world line)) half
     (subst (λ (shapes : List Shape). IsAnswered heap reply (answer_to shapes nursery world line)) same given)
 
 -- the heap that shows the world after the Ends shows that after the lines and the Ends
-pub shows-ends : (heap : Heap) (types old_types : List Shape) (nursery old_nursery : ℕ) (world : World) (lines : List Line) (count mutators : ℕ) → types ≡ old_types → nursery ≡ old_nursery → count ≡ mutators → ShowsWorld heap (world_after_lines types nursery (world_after_lines old_types old_nursery world lines) (ends_of count)) → ShowsWorld heap (world_after_lines old_types old_nursery world (lines ++ ends_of mutators))
+pub shows-ends : (heap : Heap) (types old_types : List Shape) (nursery old_nursery : ℕ) (world : World) (lines : List Line)
+    (count mutators : ℕ) → types ≡ old_types → nursery ≡ old_nursery → count ≡ mutators
+    → ShowsWorld heap (world_after_lines types nursery (world_after_lines old_types old_nursery world lines) (ends_of count))
+    → ShowsWorld heap (world_after_lines old_types old_nursery world (lines ++ ends_of mutators))
 shows-ends heap types old_types nursery old_nursery world lines count mutators same half all shown =
     let before = world_after_lines old_types old_nursery world lines in
     let one = subst (λ (shapes : List Shape). ShowsWorld heap (world_after_lines shapes nursery before (ends_of count))) same shown in
@@ -93,11 +110,16 @@ shows-ends heap types old_types nursery old_nursery world lines count mutators s
     subst (λ (after : World). ShowsWorld heap after) (sym (world_after-append old_types old_nursery world lines (ends_of mutators))) three
 
 -- the world after one more End
-pub ends-next : (types : List Shape) (nursery : ℕ) (world : World) (n : ℕ) → world_after_lines types nursery world (ends_of (n + 1)) ≡ (answer_to types nursery (world_after_lines types nursery world (ends_of n)) (record { mutator = n; call = End })).world
+pub ends-next : (types : List Shape) (nursery : ℕ) (world : World) (n : ℕ)
+    → world_after_lines types nursery world (ends_of (n + 1)) ≡
+    (answer_to types nursery (world_after_lines types nursery world (ends_of n)) (record { mutator = n; call = End })).world
 ends-next types nursery world n =
     rw (add-one n) (world_after-append types nursery world (ends_of n) (record { mutator = n; call = End } ∷ []))
 
 -- the text of the replies that are left begins with the line of the next
-pub lines_text-next : (script : Script) (replies : List Reply) (i : ℕ) (reply : Reply) → slice_get replies i ≡ Some reply → lines_text (number_of_line script i) (drop i replies) ≡ reply_line (number_of_line script i) reply ++ lines_text (number_of_line script (i + 1)) (drop (i + 1) replies)
+pub lines_text-next : (script : Script) (replies : List Reply) (i : ℕ) (reply : Reply) → slice_get replies i ≡ Some reply
+    → lines_text (number_of_line script i) (drop i replies) ≡ reply_line (number_of_line script i) reply ++ lines_text
+    (number_of_line script (i + 1)) (drop (i + 1) replies)
 lines_text-next script replies i reply h =
-    rw (drop-at replies i reply h, add-one i) (ap (λ (n : ℕ). reply_line (number_of_line script i) reply ++ lines_text n (drop (suc i) replies)) (omega arith))
+    rw (drop-at replies i reply h, add-one i) (ap (λ (n : ℕ). reply_line (number_of_line script i) reply ++ lines_text n
+    (drop (suc i) replies)) (omega arith))

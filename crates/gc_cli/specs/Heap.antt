@@ -78,7 +78,8 @@ pub record IsShaped (types : List Shape) (object : Object) : Type 0 where
   pub numbers : length object.numbers ≡ (shape_at types object.ty).numbers
 
 -- the words and the mutators' parts show the world by the placement
-pub record Shows (types : List Shape) (layout : Layout) (words : List ℕ) (bays : List Bay) (placement : Placement) (world : World) : Type 0 where
+pub record Shows (types : List Shape) (layout : Layout) (words : List ℕ) (bays : List Bay) (placement : Placement)
+    (world : World) : Type 0 where
   pub are_types : AreTypes types
   pub limits : IsWithinLimits layout
   pub long : length words ≡ 1 + word_count layout
@@ -89,12 +90,17 @@ pub record Shows (types : List Shape) (layout : Layout) (words : List ℕ) (bays
   pub shaped : All (IsShaped types) world.graph
   pub common : ((object_at world.graph 0).maker ≡ None) × (length (object_at world.graph 0).slots ≡ 16)
   pub placed : length placement ≡ length world.graph
-  pub written : (i : ℕ) → i < length world.graph → StandAt words (slice_index placement i) (object_words placement (object_at world.graph i))
-  pub lying : (i : ℕ) → i < length world.graph → LiesAt layout bays (object_size (object_at world.graph i)) (object_at world.graph i).maker (slice_index placement i)
-  pub apart : (i j k l : ℕ) → i < length world.graph → j < length world.graph → k < object_size (object_at world.graph i) → l < object_size (object_at world.graph j) → slice_index placement i + k ≡ slice_index placement j + l → i ≡ j
-  pub free : (t k : ℕ) → t < layout.mutators → (bay_at bays t).used ≤ k → k < layout.nursery → slice_index words (bump_start layout t + k) ≡ 0
+  pub written : (i : ℕ) → i < length world.graph → StandAt words (slice_index placement i)
+      (object_words placement (object_at world.graph i))
+  pub lying : (i : ℕ) → i < length world.graph → LiesAt layout bays (object_size (object_at world.graph i))
+      (object_at world.graph i).maker (slice_index placement i)
+  pub apart : (i j k l : ℕ) → i < length world.graph → j < length world.graph → k < object_size (object_at world.graph i)
+      → l < object_size (object_at world.graph j) → slice_index placement i + k ≡ slice_index placement j + l → i ≡ j
+  pub free : (t k : ℕ) → t < layout.mutators → (bay_at bays t).used ≤ k → k < layout.nursery
+      → slice_index words (bump_start layout t + k) ≡ 0
   pub used : (t : ℕ) → t < layout.mutators → ((bay_at bays t).used ≡ made_words world.graph t) × ((bay_at bays t).used ≤ layout.nursery)
-  pub registered : (t reg : ℕ) → t < layout.mutators → slice_index (bay_at bays t).registers reg ≡ name_address placement (named_by world t reg)
+  pub registered : (t reg : ℕ) → t < layout.mutators → slice_index (bay_at bays t).registers reg ≡ name_address placement
+      (named_by world t reg)
   pub blocked : (t : ℕ) → t < layout.mutators → (bay_at bays t).blocked ≡ is_blocked world t
 
 -- the heap shows the world by the placement

@@ -1,3 +1,6 @@
+//! A heap of words that collects nothing. It shows a world of the graph by an address for each object: a new object
+//! is written behind its maker's others in half 0, as far as that is used, and the common object stands at the start of
+//! page 0 of mutator 0. Each call answers as the graph does and leaves the heap showing the graph's world.
 ghost use Rattle.std.specs.Prelude.{◌≡◌, ◌<◌, ℕ, length, slice_index, slice_set, IfOk};
 ghost use Rattle.gc_layout.specs.Head.{head_word};
 ghost use Rattle.gc_model.specs.Answer.{IsFit, Suits, effect, shape_at};

@@ -1,3 +1,4 @@
+//! Plays a script: each line's call in the order of the text, and then the End of each mutator.
 ghost use Rattle.std.specs.Prelude.{◌≡◌, ◌<◌, ◌≤◌, ◌++◌, [], length, IfOk, slice_get, Some, vec_len, vec_capacity};
 ghost use Rattle.gc_model.specs.History.{History, replies_by_line, ends_of};
 ghost use Rattle.gc_model.specs.Interim.{answer_to, replies_of, world_after_lines};

@@ -19,7 +19,8 @@ use Rattle.gc_model.proofs.Steps.{answer-step, effect-step}
 use Rattle.gc_model.proofs.Typed.{first_world-typed, more-typed, new_kind-typed, same-typed}
 
 -- a step keeps the objects
-pub step-keeps : (types : List Shape) (t : ℕ) (call : Call) (room : Bool) (old new : World) → IsStep types t call room old new → KeepsObjects old new
+pub step-keeps : (types : List Shape) (t : ℕ) (call : Call) (room : Bool) (old new : World) → IsStep types t call room old new
+    → KeepsObjects old new
 step-keeps types t call room old new (unchanged is) =
     subst (KeepsObjects old) (sym is) (record { mutators = refl; objects = inl refl })
 step-keeps types t call room old new (mutator_changed mutator is own) =
@@ -36,7 +37,8 @@ step-keeps types t call room old new (object_added into ty is call_is room_is) =
     })
 
 -- so does each effect
-pub effect-keeps : (types : List Shape) (world : World) (t : ℕ) (room : Bool) (call : Call) → KeepsObjects world (effect types world t room call).world
+pub effect-keeps : (types : List Shape) (world : World) (t : ℕ) (room : Bool) (call : Call)
+    → KeepsObjects world (effect types world t room call).world
 effect-keeps types world t room call = step-keeps types t call room world _ (effect-step types t call room world)
 
 -- so does each entry
@@ -53,14 +55,16 @@ available-there world sound t name (by_slot number place at_hand is) =
     subst (IsThere (length world.graph)) (sym is) (slot-there world sound number place)
 
 -- a mutator that changes by names that it can come by stays sound
-own-sound : (world : World) → IsSound world → (t : ℕ) (mutator : Mutator) → IsOwnChange world t mutator → IsSoundMutator (length world.graph) mutator
+own-sound : (world : World) → IsSound world → (t : ℕ) (mutator : Mutator) → IsOwnChange world t mutator
+    → IsSoundMutator (length world.graph) mutator
 own-sound world sound t mutator own = (
   own.sixteen (mutator_at-sound world sound t).0,
   All-weaker (IsAvailable world t) (IsThere (length world.graph)) (available-there world sound t) mutator.registers own.names,
 )
 
 -- a step keeps a world sound
-pub step-sound : (types : List Shape) (t : ℕ) (call : Call) (room : Bool) (old new : World) → IsSound old → IsStep types t call room old new → IsSound new
+pub step-sound : (types : List Shape) (t : ℕ) (call : Call) (room : Bool) (old new : World) → IsSound old
+    → IsStep types t call room old new → IsSound new
 step-sound types t call room old new sound (unchanged is) = subst IsSound (sym is) sound
 step-sound types t call room old new sound (mutator_changed mutator is own) =
     subst IsSound (sym is) (with_mutator-sound old sound t mutator (own-sound old sound t mutator own))
@@ -78,7 +82,8 @@ entry-sound types world sound (Made t call reply) =
 entry-sound types world sound (Run report) = sound
 
 -- so entries after a sound world lead to a sound one
-entries-sound : (types : List Shape) (history : History) (world : World) → IsSound world → IsSound (fold (world_after_entry types) world history)
+entries-sound : (types : List Shape) (history : History) (world : World) → IsSound world
+    → IsSound (fold (world_after_entry types) world history)
 entries-sound types [] world sound = sound
 entries-sound types (entry ∷ history) world sound =
     entries-sound types history (world_after_entry types world entry) (entry-sound types world sound entry)
@@ -88,8 +93,8 @@ pub history-sound : (heap : Configuration) (history : History) → IsSound (worl
 history-sound heap history = entries-sound heap.types history (first_world heap.mutators) (first_world-sound heap.mutators)
 
 -- a step of a fit call keeps a world well typed
-pub step-typed : (types : List Shape) (t : ℕ) (call : Call) (room : Bool) (old new : World) → IsReady types old t call → IsStep types t call room old new
-    → IsWellTyped types new
+pub step-typed : (types : List Shape) (t : ℕ) (call : Call) (room : Bool) (old new : World) → IsReady types old t call
+    → IsStep types t call room old new → IsWellTyped types new
 step-typed types t call room old new ready (unchanged is) = subst (IsWellTyped types) (sym is) ready.typed
 step-typed types t call room old new ready (mutator_changed mutator is own) =
     subst (IsWellTyped types) (sym is) (same-typed types old (with_mutator old t mutator) refl ready.typed)
@@ -116,7 +121,8 @@ entry-typed types world sound typed (Run report) fit = typed
 
 -- so fit entries after a well-typed world lead to a well-typed one
 entries-typed : (types : List Shape) (mutators : ℕ) (history : History) (world : World) → IsSound world → IsWellTyped types world
-    → length world.mutators ≡ mutators → All (IsFitEntry types mutators) history → IsWellTyped types (fold (world_after_entry types) world history)
+    → length world.mutators ≡ mutators → All (IsFitEntry types mutators) history
+    → IsWellTyped types (fold (world_after_entry types) world history)
 entries-typed types mutators [] world sound typed count fit = typed
 entries-typed types mutators (entry ∷ history) world sound typed count fit =
     let own = subst (λ (each : ℕ). IsFitEntry types each entry) (sym count) (All-head (IsFitEntry types mutators) entry history fit) in

@@ -42,7 +42,8 @@ count-less fewer more implies [] some = absurd (false≢true some)
 count-less fewer more implies (x ∷ xs) some =
     let front = sum_by-cons (λ x. weight (fewer x)) x xs in
     let back = sum_by-cons (λ x. weight (more x)) x xs in
-    elim (or_cases (more x && not (fewer x)) (list_any (λ x. more x && not (fewer x)) xs) some) as (λ _. count_by fewer (x ∷ xs) < count_by more (x ∷ xs)) [
+    elim (or_cases (more x && not (fewer x)) (list_any (λ x. more x && not (fewer x)) xs) some)
+    as (λ _. count_by fewer (x ∷ xs) < count_by more (x ∷ xs)) [
       | inl here ↦ omega (arith, front, back, weight-less (fewer x) (more x) here, count-le fewer more implies xs)
       | inr later ↦ omega (arith, front, back, weight-le (fewer x) (more x) (implies x), count-less fewer more implies xs later)
     ]

@@ -63,9 +63,13 @@ pub reached-next : (tracing : Tracing) (rounds member number : ℕ) → member <
 reached-next tracing rounds member number there own reached named =
     or_right _ _ (and_from _ _ own (member-passes tracing (names_in tracing rounds number) member there (and_from _ _ reached named)))
 
--- what a round adds belongs, and a slot of a member names it
+-- whether a round adds an object, or has it already: it belongs, and a slot of a member of the round before names it
+abbrev adds : Tracing → ℕ → ℕ → Bool
+adds tracing rounds number = tracing.belongs number && list_any (names_in tracing rounds number) (members_of tracing)
+
+-- so it does
 added-by : (tracing : Tracing) (rounds number : ℕ)
-    → (tracing.belongs number && list_any (names_in tracing rounds number) (members_of tracing)) ≡ true
+    → adds tracing rounds number ≡ true
     → (tracing.belongs number ≡ true) × ((member : ℕ) × (member < length tracing.graph) × (is_reached_in tracing rounds member ≡ true)
     × (is_named number (object_at tracing.graph member).slots ≡ true))
 added-by tracing rounds number added =
@@ -81,7 +85,7 @@ closed-has_round tracing has closed zero number reached =
     let both = and_parts (tracing.belongs number) (is_named number tracing.roots) reached in
     closed.roots number both.0 both.1
 closed-has_round tracing has closed (suc rounds) number reached =
-    elim (or_cases (is_reached_in tracing rounds number) (tracing.belongs number && list_any (names_in tracing rounds number) (members_of tracing)) reached)
+    elim (or_cases (is_reached_in tracing rounds number) (adds tracing rounds number) reached)
     as (λ _. has number ≡ true) [
       | inl before ↦ closed-has_round tracing has closed rounds number before
       | inr added ↦
@@ -97,7 +101,9 @@ reached-least tracing has closed number reached = closed-has_round tracing has c
 -- what is reached belongs
 pub reached-belongs : (tracing : Tracing) (number : ℕ) → is_reached tracing number ≡ true → tracing.belongs number ≡ true
 reached-belongs tracing number reached =
-    reached-least tracing tracing.belongs (record { roots = λ each own named. own; slots = λ member each there has own named. own }) number reached
+    let closed : IsClosedUnderSlots tracing tracing.belongs =
+    record { roots = λ each own named. own; slots = λ member each there has own named. own } in
+    reached-least tracing tracing.belongs closed number reached
 
 -- how many objects of the graph a round has
 abbrev count_in : Tracing → ℕ → ℕ
@@ -109,11 +115,11 @@ IsEnd tracing rounds = (number : ℕ) → is_reached_in tracing (suc rounds) num
 
 -- a round that adds no object of the graph is followed by one that adds nothing
 end-after : (tracing : Tracing) (rounds : ℕ)
-    → ((member : ℕ) → member < length tracing.graph → is_reached_in tracing (suc rounds) member ≡ true → is_reached_in tracing rounds member ≡ true)
+    → ((member : ℕ) → member < length tracing.graph → is_reached_in tracing (suc rounds) member ≡ true
+    → is_reached_in tracing rounds member ≡ true)
     → IsEnd tracing (suc rounds)
 end-after tracing rounds none number reached =
-    elim (or_cases (is_reached_in tracing (suc rounds) number)
-    (tracing.belongs number && list_any (names_in tracing (suc rounds) number) (members_of tracing)) reached)
+    elim (or_cases (is_reached_in tracing (suc rounds) number) (adds tracing (suc rounds) number) reached)
     as (λ _. is_reached_in tracing (suc rounds) number ≡ true) [
       | inl before ↦ before
       | inr added ↦
@@ -130,7 +136,8 @@ adds-none : (tracing : Tracing) (rounds : ℕ) → list_any (adds_member tracing
     → member < length tracing.graph → is_reached_in tracing (suc rounds) member ≡ true → is_reached_in tracing rounds member ≡ true
 adds-none tracing rounds none member there reached =
     true_from_ne_false (is_reached_in tracing rounds member) (λ missing.
-    false≢true (sym none ∙ member-passes tracing (adds_member tracing rounds) member there (and_from _ _ reached (not_from_false _ missing))))
+    let added = and_from _ _ reached (not_from_false (is_reached_in tracing rounds member) missing) in
+    false≢true (sym none ∙ member-passes tracing (adds_member tracing rounds) member there added))
 
 -- each round is at an end, or it has more objects of the graph than there were rounds before
 ends-or_grows : (tracing : Tracing) (rounds : ℕ) → IsEnd tracing rounds ⊎ (rounds < count_in tracing rounds)
@@ -139,7 +146,7 @@ ends-or_grows tracing zero =
     elim (cases_Bool (list_any test (members_of tracing))) as (λ _. IsEnd tracing 0 ⊎ (0 < count_in tracing 0)) [
       | inl some ↦ inr (count-some test (members_of tracing) some)
       | inr none ↦ inl (λ number reached.
-          elim (or_cases (is_reached_in tracing 0 number) (tracing.belongs number && list_any (names_in tracing 0 number) (members_of tracing)) reached)
+          elim (or_cases (is_reached_in tracing 0 number) (adds tracing 0 number) reached)
           as (λ _. is_reached_in tracing 0 number ≡ true) [
             | inl before ↦ before
             | inr added ↦
@@ -167,7 +174,8 @@ rounds-end tracing =
     elim (ends-or_grows tracing (length tracing.graph)) as (λ _. IsEnd tracing (length tracing.graph)) [
       | inl ended ↦ ended
       | inr grown ↦
-          let most = count_by-le-length (λ (member : ℕ × Object). is_reached_in tracing (length tracing.graph) member.0) (members_of tracing) in
+          let reached : ℕ × Object → Bool = λ member. is_reached_in tracing (length tracing.graph) member.0 in
+          let most = count_by-le-length reached (members_of tracing) in
           absurd (omega (arith, grown, most, length-enumerate_from 0 tracing.graph))
     ]
 

@@ -130,7 +130,8 @@ counted-more done before t call reply counted other =
     ∙ length-append (filter (is_line_of other) before) (filter (is_line_of other) (line ∷ [])))
 
 -- and after a collection
-counted-run : (done : History) (before : List Line) (report : RunReport) → AreCounted done before → AreCounted (done ++ Run report ∷ []) before
+counted-run : (done : History) (before : List Line) (report : RunReport) → AreCounted done before
+    → AreCounted (done ++ Run report ∷ []) before
 counted-run done before report counted t =
     ap length (replies_to-more t done (Run report) ∙ append-nil (replies_to t done)) ∙ counted t
 

@@ -36,7 +36,8 @@ named_by-there world sound t reg =
     or_default (IsThere (length world.graph)) (mutator_at world t).registers reg None (mutator_at-sound world sound t).1 tt
 
 -- so the object that it names is there
-pub named_by-number : (world : World) → IsSound world → (t reg number : ℕ) → named_by world t reg ≡ Some number → number < length world.graph
+pub named_by-number : (world : World) → IsSound world → (t reg number : ℕ) → named_by world t reg ≡ Some number
+    → number < length world.graph
 named_by-number world sound t reg number named = subst (IsThere (length world.graph)) named (named_by-there world sound t reg)
 
 -- the slots of each object of a sound world name objects that are there

@@ -21,8 +21,8 @@ own-available : (world : World) (t : ℕ) → All (IsAvailable world t) (mutator
 own-available world t reg d below = by_register reg (get_or_default (mutator_at world t).registers reg d None below)
 
 -- a register comes to name what the mutator can come by
-register-step : (types : List Shape) (t : ℕ) (call : Call) (room : Bool) (world : World) (reg : ℕ) (name : Option ℕ) → IsAvailable world t name
-    → IsStep types t call room world (with_register world t reg name)
+register-step : (types : List Shape) (t : ℕ) (call : Call) (room : Bool) (world : World) (reg : ℕ) (name : Option ℕ)
+    → IsAvailable world t name → IsStep types t call room world (with_register world t reg name)
 register-step types t call room world reg name available =
     let registers = (mutator_at world t).registers in
     mutator_changed _ refl (record {
@@ -43,13 +43,14 @@ end-step types t call room world =
     mutator_changed _ refl (record { sixteen = λ _. refl; names = All-replicate (IsAvailable world t) 16 None (as_nothing refl) })
 
 -- a slot that is nothing changes nothing, and else a register comes to name what it names
-loads-step : (types : List Shape) (t : ℕ) (call : Call) (room : Bool) (world : World) (into : ℕ) (name : Option ℕ) → IsAvailable world t name
-    → IsStep types t call room world (loads world t into name).world
+loads-step : (types : List Shape) (t : ℕ) (call : Call) (room : Bool) (world : World) (into : ℕ) (name : Option ℕ)
+    → IsAvailable world t name → IsStep types t call room world (loads world t into name).world
 loads-step types t call room world into None available = unchanged refl
 loads-step types t call room world into (Some number) available = register-step types t call room world into (Some number) available
 
 -- a refusal changes nothing, and else the call works on an object that the register names, at a place below its count
-on_owner-step : (types : List Shape) (t : ℕ) (call : Call) (room : Bool) (world : World) (base : Option ℕ) (count : ℕ → ℕ) (place : ℕ) (made : ℕ → Answer)
+on_owner-step : (types : List Shape) (t : ℕ) (call : Call) (room : Bool) (world : World)
+    (base : Option ℕ) (count : ℕ → ℕ) (place : ℕ) (made : ℕ → Answer)
     → ((number : ℕ) → base ≡ Some number → place < count number → IsStep types t call room world (made number).world)
     → IsStep types t call room world (on_owner world (owner_of base count place) made).world
 on_owner-step types t call room world None count place made each = unchanged refl
@@ -87,7 +88,8 @@ effect-step types t (Set base place value) room world =
 effect-step types t (SwapIf base place expected replacement) room world =
     on_owner-step types t (SwapIf base place expected replacement) room world (named_by world t base) _ place _ (λ number named below.
     swaps-step types t (SwapIf base place expected replacement) room world number place expected replacement _
-    (number_changed number place replacement refl (inr (base, named)) (λ ready. has-number world t base number place ready.sound named below)))
+    (number_changed number place replacement refl (inr (base, named))
+    (λ ready. has-number world t base number place ready.sound named below)))
 effect-step types t (Same left right) room world = unchanged refl
 effect-step types t (CopyReg into source) room world =
     register-step types t (CopyReg into source) room world into (named_by world t source) (by_register source refl)

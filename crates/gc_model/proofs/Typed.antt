@@ -80,7 +80,8 @@ with_object-well_formed plain formed t ty shape known is =
     let world = plain.world in
     let object = fresh_object ty (Some t) shape in
     let own : IsTyped plain.types (kind_of object) =
-    subst (λ (each : Shape). IsTyped plain.types (kind_of (fresh_object ty (Some t) each))) (sym is) (new_kind-typed plain.types t ty known) in
+    subst (λ (each : Shape). IsTyped plain.types (kind_of (fresh_object ty (Some t) each))) (sym is)
+    (new_kind-typed plain.types t ty known) in
     record {
       types = formed.types;
       sound = with_object-sound world formed.sound ty (Some t) shape;

@@ -1,3 +1,4 @@
+//! The entries of a history: calls with their replies, and collections.
 use crate::{Call, Reply};
 
 /// The kind of a collection.

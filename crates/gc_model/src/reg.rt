@@ -1,3 +1,4 @@
+//! A register's number.
 ghost use Rattle.std.specs.Prelude.{◌≡◌, ◌<◌, ◌≤◌, ◌↔◌, IsNone, IfSome};
 
 use std::marker::Model;
@@ -26,7 +27,7 @@ impl Model for Reg {
 impl Reg {
     /// The register of this number. None exactly where it is 16 or more.
     pub fn make(n: u8) -> Option<Reg>
-        ensures found { IfSome result (λ reg. reg ≡ n) }
+        ensures same { IfSome result (λ reg. reg ≡ n) }
         ensures none { IsNone result ↔ (16 ≤ n) }
     {
         if n < REGISTERS {

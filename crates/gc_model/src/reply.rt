@@ -1,3 +1,4 @@
+//! The replies to calls.
 /// What a call answers.
 #[derive(Clone, Copy, Debug, PartialEq, Eq)]
 pub enum Reply {

@@ -1,3 +1,4 @@
+//! Calls that are made in turns, for a caller that waits for nobody.
 use crate::Reply;
 
 /// How a turn of a call ended.

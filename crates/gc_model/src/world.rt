@@ -1,3 +1,7 @@
+//! The plain graph: the slow program that computes the graph's answers. Objects stand in a list, in which an object's
+//! number is its index, and none is ever taken away. A call is first refused for being blocked, or for not being so;
+//! else it is made: a New takes memory for one object, and each other call changes one register, slot or number at
+//! most. What is reachable is counted by a search from the common object and the registers.
 ghost use Rattle.std.specs.Prelude.{◌≡◌, ◌<◌, ◌≤◌, Bool, true, length, replicate, IfOk, OnOk, OnErr};
 ghost use Rattle.gc_model.specs.Answer.{answer, effect, IsFit, IsNew, Suits};
 ghost use Rattle.gc_model.specs.Graph.{fresh_object, object_size};
@@ -25,65 +29,6 @@ const COMMON: Shape = Shape {
 pub struct Live {
     pub objects: u64,
     pub words: u64,
-}
-
-/// An object of the graph. A slot names an object by its number.
-#[derive(Debug, Drop)]
-struct Object {
-    ty: TypeNo,
-    maker: Option<u8>,
-    slots: Vec<Option<usize>>,
-    numbers: Vec<u64>,
-}
-
-impl Model for Object {
-    ghost use Rattle.gc_model.specs.Graph.{Object as GraphObject};
-
-    ghost Value = { GraphObject };
-
-    ghost view = { λ o. record { ty = o.ty.0; maker = o.maker; slots = o.slots.items; numbers = o.numbers.items } };
-}
-
-impl Object {
-    /// A new object: all slots are nothing and all numbers 0.
-    fn fresh(
-        alloc: Global,
-        ty: TypeNo,
-        maker: Option<u8>,
-        shape: Shape,
-    ) -> Result<Object, AllocError>
-        ensures { IfOk result (λ object. object ≡ fresh_object ty.0 maker shape) }
-    {
-        Ok(Object {
-            ty,
-            maker,
-            slots: vec![in alloc; None; usize::from(shape.slots)]?,
-            numbers: vec![in alloc; 0; usize::from(shape.numbers)]?,
-        })
-    }
-
-    /// The size in words: header, forwarding word, slots and numbers.
-    fn size(&self) -> u64
-        requires { object_size self.now ≤ 64 }
-        ensures { result ≡ object_size self.now }
-    {
-        2 + self.slots.len() as u64 + self.numbers.len() as u64
-    }
-}
-
-/// What a mutator keeps.
-#[derive(Debug, Drop)]
-struct Mutator {
-    registers: [Option<usize>; 16],
-    blocked: bool,
-}
-
-impl Model for Mutator {
-    ghost use Rattle.gc_model.specs.World.{Mutator as WorldMutator};
-
-    ghost Value = { WorldMutator };
-
-    ghost view = { λ m. record { registers = m.registers; blocked = m.blocked } };
 }
 
 /// The slow plain graph: a world, with the types of its objects. Nothing is ever reclaimed.
@@ -231,6 +176,65 @@ impl World {
         self.name(t, into, Some(number));
         Ok(Reply::Done)
     }
+}
+
+/// An object of the graph. A slot names an object by its number.
+#[derive(Debug, Drop)]
+struct Object {
+    ty: TypeNo,
+    maker: Option<u8>,
+    slots: Vec<Option<usize>>,
+    numbers: Vec<u64>,
+}
+
+impl Model for Object {
+    ghost use Rattle.gc_model.specs.Graph.{Object as GraphObject};
+
+    ghost Value = { GraphObject };
+
+    ghost view = { λ o. record { ty = o.ty.0; maker = o.maker; slots = o.slots.items; numbers = o.numbers.items } };
+}
+
+impl Object {
+    /// A new object: all slots are nothing and all numbers 0.
+    fn fresh(
+        alloc: Global,
+        ty: TypeNo,
+        maker: Option<u8>,
+        shape: Shape,
+    ) -> Result<Object, AllocError>
+        ensures { IfOk result (λ object. object ≡ fresh_object ty.0 maker shape) }
+    {
+        Ok(Object {
+            ty,
+            maker,
+            slots: vec![in alloc; None; usize::from(shape.slots)]?,
+            numbers: vec![in alloc; 0; usize::from(shape.numbers)]?,
+        })
+    }
+
+    /// The size in words: header, forwarding word, slots and numbers.
+    fn size(&self) -> u64
+        requires { object_size self.now ≤ 64 }
+        ensures { result ≡ object_size self.now }
+    {
+        2 + self.slots.len() as u64 + self.numbers.len() as u64
+    }
+}
+
+/// A mutator: what its registers name, and whether it is blocked.
+#[derive(Debug, Drop)]
+struct Mutator {
+    registers: [Option<usize>; 16],
+    blocked: bool,
+}
+
+impl Model for Mutator {
+    ghost use Rattle.gc_model.specs.World.{Mutator as WorldMutator};
+
+    ghost Value = { WorldMutator };
+
+    ghost view = { λ m. record { registers = m.registers; blocked = m.blocked } };
 }
 
 /// Mutators that have done nothing yet.

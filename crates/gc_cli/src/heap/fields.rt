@@ -1,3 +1,4 @@
+//! The calls on slots and on numbers. Each finds the word of the field that is meant, or the refusal.
 ghost use Rattle.std.specs.Prelude.{◌≡◌, ◌<◌, ◌+◌, ℕ, true, length, Err, IfOk, IfErr};
 ghost use Rattle.gc_model.specs.Answer.{effect, number_owner, slot_owner};
 ghost use Rattle.gc_model.specs.Graph.{object_at};

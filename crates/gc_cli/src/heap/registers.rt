@@ -1,3 +1,4 @@
+//! The registers of a mutator, and whether it is blocked.
 ghost use Rattle.std.specs.Prelude.{◌≡◌, ◌<◌, ℕ, Option, true, length, slice_index, IfSome};
 ghost use Rattle.gc_model.specs.Answer.{effect, loads, does};
 ghost use Rattle.gc_model.specs.World.{World, is_blocked, with_register, with_blocked};

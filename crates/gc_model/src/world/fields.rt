@@ -114,9 +114,9 @@ impl World {
     {
         match self.number_owner(t, base, place) {
             Ok(number) => {
-                let found = self.number(number, place);
-                if found != expected {
-                    return Reply::Found(found);
+                let there = self.number(number, place);
+                if there != expected {
+                    return Reply::Found(there);
                 }
                 self.set_number(number, place, replacement);
                 Reply::Yes

@@ -69,7 +69,7 @@ fn mark_registers(mutators: &[Mutator], work: &mut Worklist)
 /// more than 64 words.
 fn sum_marked(objects: &[Object], work: &Worklist) -> Live
     requires marks { length work.now.marks ≡ length objects.now }
-    requires small { All (λ object. object_size object ≤ 64) objects.now }
+    requires sizes { All (λ object. object_size object ≤ 64) objects.now }
     ensures { result ≡ sum_of (marked_of objects.now work.now) }
 {
     let mut live = Live {

@@ -1,3 +1,4 @@
+//! The calls on registers, and on whether a mutator is blocked.
 ghost use Rattle.std.specs.Prelude.{◌≡◌, ◌<◌, None, true, length, replicate, IfSome};
 ghost use Rattle.gc_model.specs.Answer.{effect, loads};
 ghost use Rattle.gc_model.specs.Plain.{with_world};

@@ -17,13 +17,18 @@ loop-mutator-preserved c =
     let types = c.args.heap.now.types.now in
     let nursery = c.args.heap.now.places.nursery in
     record {
-      stays = record { types = c.call.ensures.stays.types ∙ invariant.stays.types; places = c.call.ensures.stays.places ∙ invariant.stays.places };
+      stays = record {
+        types = c.call.ensures.stays.types ∙ invariant.stays.types;
+        places = c.call.ensures.stays.places
+            ∙ invariant.stays.places;
+      };
       ended = λ world shown.
           let before = invariant.ended world shown in
           let half = ap (λ (layout : Layout). layout.nursery) invariant.stays.places in
           let so_far = world_after_lines types nursery world (ends_of c.loop-mutator.mutator) in
           let line : Line = record { mutator = c.loop-mutator.mutator; call = End } in
-          let after = answered-alike c.call.new.self c.call.result c.loop-mutator.heap.types.now types c.loop-mutator.heap.places.nursery nursery so_far line invariant.stays.types half (c.call.ensures.answered so_far before) in
+          let after = answered-alike c.call.new.self c.call.result c.loop-mutator.heap.types.now types c.loop-mutator.heap.places.nursery
+          nursery so_far line invariant.stays.types half (c.call.ensures.answered so_far before) in
           rw (ends-next types nursery world c.loop-mutator.mutator) after.shown;
     }
 
@@ -32,4 +37,5 @@ returns-clause-ended c world shown =
     let e : c.loop-mutator.mutator ≡ c.args.mutators = omega (arith, c.loop-mutator-test.false, c.loop-mutator.auto.mutator-end) in
     let types = c.args.heap.now.types.now in
     let nursery = c.args.heap.now.places.nursery in
-    subst (λ (n : ℕ). ShowsWorld c.loop-mutator.heap (world_after_lines types nursery world (ends_of n))) e (c.loop-mutator.invariant.ended world shown)
+    subst (λ (n : ℕ). ShowsWorld c.loop-mutator.heap (world_after_lines types nursery world (ends_of n))) e
+    (c.loop-mutator.invariant.ended world shown)

@@ -12,8 +12,11 @@ returns-clause-replies c =
     let places = rw c.unwrap-places.ensures at c.make.ensures.made in
     let types : c.in_ok-heap.heap.types.now ≡ script.preamble.types = cc in
     let nursery : c.in_ok-heap.heap.places.nursery ≡ c.args.opts.now.nursery = ap (λ (layout : Layout). layout.nursery) (made.1 ∙ places) in
-    let mutators : c.unwrap-places.result.mutators ≡ script.preamble.mutators = ap (λ (layout : Layout). layout.mutators) places ∙ c.mutators.ensures.mutators in
+    let mutators : c.unwrap-places.result.mutators ≡ script.preamble.mutators = ap (λ (layout : Layout). layout.mutators) places
+    ∙ c.mutators.ensures.mutators in
     let given = c.play_lines.ensures.replies (first_world c.unwrap-places.result.mutators) made.2 in
-    let replies : c.play_lines.new.replies.items ≡ replies_of script.preamble.types c.args.opts.now.nursery (first_world script.preamble.mutators) script.lines = cc in
+    let replies : c.play_lines.new.replies.items ≡ replies_of script.preamble.types c.args.opts.now.nursery
+    (first_world script.preamble.mutators) script.lines = cc in
     let some : 1 ≤ script.preamble.mutators = omega (arith, c.mutators.ensures.some, c.mutators.ensures.mutators) in
-    uncollected-played c.args.opts.now script c.play_lines.new.replies.items some c.requires.some_pages c.count.ensures.fit c.count.ensures.built replies
+    uncollected-played c.args.opts.now script c.play_lines.new.replies.items some c.requires.some_pages c.count.ensures.fit
+    c.count.ensures.built replies

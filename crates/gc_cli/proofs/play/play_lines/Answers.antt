@@ -22,14 +22,22 @@ loop-place-preserved c =
     let half = ap (λ (layout : Layout). layout.nursery) invariant.stays.places in
     let next = slice_get-below lines c.loop-place.place (omega (arith, c.loop-place-test.true, c.count-place-end.ensures.count)) in
     record {
-      stays = record { types = c.play_line.ensures.stays.types ∙ invariant.stays.types; places = c.play_line.ensures.stays.places ∙ invariant.stays.places };
+      stays = record {
+        types = c.play_line.ensures.stays.types ∙ invariant.stays.types;
+        places = c.play_line.ensures.stays.places
+            ∙ invariant.stays.places;
+      };
       shown = λ world shown.
           let before = world_after_lines types nursery world (take c.loop-place.place lines) in
-          let given = answered-alike c.play_line.new.heap c.play_line.result c.loop-place.heap.types.now types c.loop-place.heap.places.nursery nursery before next.0 invariant.stays.types half (c.play_line.ensures.answered before next.0 (invariant.shown world shown) next.1) in
+          let given = answered-alike c.play_line.new.heap c.play_line.result c.loop-place.heap.types.now types
+          c.loop-place.heap.places.nursery nursery before next.0 invariant.stays.types half
+          (c.play_line.ensures.answered before next.0 (invariant.shown world shown) next.1) in
           rw (world_after-next types nursery world lines c.loop-place.place next.0 next.1) given.shown;
       replies = λ world shown.
           let before = world_after_lines types nursery world (take c.loop-place.place lines) in
-          let given = answered-alike c.play_line.new.heap c.play_line.result c.loop-place.heap.types.now types c.loop-place.heap.places.nursery nursery before next.0 invariant.stays.types half (c.play_line.ensures.answered before next.0 (invariant.shown world shown) next.1) in
+          let given = answered-alike c.play_line.new.heap c.play_line.result c.loop-place.heap.types.now types
+          c.loop-place.heap.places.nursery nursery before next.0 invariant.stays.types half
+          (c.play_line.ensures.answered before next.0 (invariant.shown world shown) next.1) in
           let so_far = invariant.replies world shown in
           let one_more = replies_of-next types nursery world lines c.loop-place.place next.0 next.1 in
           let reply = given.reply_is in
@@ -48,9 +56,11 @@ returns-clause-shown c world shown =
     let past : length lines ≤ c.loop-place.place = omega (arith, c.loop-place-test.false, c.count-place-end.ensures.count) in
     let all : take c.loop-place.place lines ≡ lines = take_all c.loop-place.place lines past in
     let before = world_after_lines types nursery world lines in
-    let here = subst (λ (some : List Line). ShowsWorld c.loop-place.heap (world_after_lines types nursery world some)) all (invariant.shown world shown) in
+    let here = subst (λ (some : List Line). ShowsWorld c.loop-place.heap (world_after_lines types nursery world some)) all
+    (invariant.shown world shown) in
     let ended = c.end_all.ensures.ended before here in
-    shows-ends c.end_all.new.heap c.loop-place.heap.types.now types c.loop-place.heap.places.nursery nursery world lines _ c.args.script.now.preamble.mutators invariant.stays.types half c.mutators.ensures.mutators ended
+    shows-ends c.end_all.new.heap c.loop-place.heap.types.now types c.loop-place.heap.places.nursery nursery world lines _
+    c.args.script.now.preamble.mutators invariant.stays.types half c.mutators.ensures.mutators ended
 
 pub returns-clause-replies : goal.returns-clause-replies
 returns-clause-replies c world shown =

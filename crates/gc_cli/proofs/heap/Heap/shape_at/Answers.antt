@@ -24,7 +24,8 @@ unwrap-requires c =
     let at = header_at c.args.self.now c.args.address c.requires.0 c.requires.1 c.requires.2 c.requires.3 in
     let object = object_at c.requires.1.graph c.requires.2 in
     let head : Head = head_of object.ty object.maker in
-    let is : c.unwrap-head.result ≡ head = same_Some c.unwrap-head.result head (sym c.unwrap-head.ensures ∙ c.of_word.ensures.exact head at.2 (sym at.3 ∙ sym c.word.ensures)) in
+    let is : c.unwrap-head.result ≡ head = same_Some c.unwrap-head.result head
+    (sym c.unwrap-head.ensures ∙ c.of_word.ensures.exact head at.2 (sym at.3 ∙ sym c.word.ensures)) in
     let known : c.unwrap-head.result.ty.0 < length c.args.self.now.types.now = rw is at.1 in
     grind (arith, common_steps)
 
@@ -33,6 +34,8 @@ returns c placement world object here =
     let at = header_at c.args.self.now c.args.address placement world object here in
     let there = object_at world.graph object in
     let head : Head = head_of there.ty there.maker in
-    let is : c.unwrap-head.result ≡ head = same_Some c.unwrap-head.result head (sym c.unwrap-head.ensures ∙ c.of_word.ensures.exact head at.2 (sym at.3 ∙ sym c.word.ensures)) in
-    let shape = get_or_from_slice_get c.args.self.now.types.now c.unwrap-head.result.ty.0 c.unwrap.result common_shape (sym c.shape.ensures.value ∙ c.unwrap.ensures) in
+    let is : c.unwrap-head.result ≡ head = same_Some c.unwrap-head.result head
+    (sym c.unwrap-head.ensures ∙ c.of_word.ensures.exact head at.2 (sym at.3 ∙ sym c.word.ensures)) in
+    let shape = get_or_from_slice_get c.args.self.now.types.now c.unwrap-head.result.ty.0 c.unwrap.result common_shape
+    (sym c.shape.ensures.value ∙ c.unwrap.ensures) in
     sym (rw is at shape)

@@ -21,21 +21,21 @@ loop-number-preserved c =
     elim c.if-is_marked.branch [
       | then-is_marked w ↦
           let marked = sym w.if-is_marked.ensures in
-          let small : object_size object ≤ 64 =
-          subst (λ (each : Object). object_size each ≤ 64) (sym is) (c.requires.small index object there) in
+          let most : object_size object ≤ 64 =
+          subst (λ (each : Object). object_size each ≤ 64) (sym is) (c.requires.sizes index object there) in
           let sums =
           ap (λ (live : Live). sum_and live (object_size object)) before.sums ∙ sym (sum-marked graph work index object there is marked) in
           rw w.live-is (record {
             sums = ap (sum_and c.loop-number.live) w.size.ensures ∙ sums;
             few = omega (arith, before.few);
-            small = omega (arith, before.small, w.size.ensures, small);
+            bounded = omega (arith, before.bounded, w.size.ensures, most);
           })
       | else-is_marked w ↦
           let unmarked = sym w.if-is_marked.ensures in
           rw w.live-is (record {
             sums = before.sums ∙ sym (sum-unmarked graph work index object there is unmarked);
             few = omega (arith, before.few);
-            small = omega (arith, before.small);
+            bounded = omega (arith, before.bounded);
           })
     ]
 

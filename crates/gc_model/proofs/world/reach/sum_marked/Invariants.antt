@@ -7,5 +7,5 @@ abbrev pub invariant-loop-number : goal.invariant-loop-number
 invariant-loop-number l = record {
   sums : l.live ≡ sum_of (marked_before l.objects l.work l.number);
   few : l.live.objects ≤ l.number;
-  small : l.live.words ≤ 64 * l.number;
+  bounded : l.live.words ≤ 64 * l.number;
 }
