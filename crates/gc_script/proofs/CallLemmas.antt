@@ -14,9 +14,10 @@ use Rattle.gc_script.specs.declared.fault.Cause.{Cause}
 use Rattle.gc_script.specs.Calls.{each_call_word, spelled_among, call_word, spelled_word, kinds_of, call_from, parts_of, AreOfKinds, AreReadable, IsReadable}
 use Rattle.gc_script.specs.Fault.{◌>>=◌}
 use Rattle.gc_script.specs.Grammar.{counted_word, call_line}
+use Rattle.gc_script.specs.Laws.{IsReadLine}
 use Rattle.gc_script.specs.Script.{Preamble, IsFitLine, IsScriptLine}
 use Rattle.gc_script.specs.Words.{number_below, numbers_of}
-use Rattle.gc_script.specs.Written.{words_of_kinds, words_of_parts, call_words}
+use Rattle.gc_script.specs.Written.{words_of_kinds, words_of_parts, call_words, line_words}
 use Rattle.gc_script.proofs.KindLemmas.{number_below-written, number_below-fits, words-read}
 use Rattle.gc_script.proofs.Passed.{if-passes, both-pass, bytes_eq-true}
 
@@ -104,7 +105,7 @@ counted_word-spelled word arguments kind h =
 
 -- what a call line that is read says
 pub record IsCallLine (preamble : Preamble) (words : List (List ℕ)) (line : Line) : Type 0 where
-  pub written : words ≡ decimal line.mutator ∷ call_words preamble.names line.call
+  pub written : words ≡ line_words preamble.names line
   pub fits : IsScriptLine preamble line
 
 pub call_line-read : (preamble : Preamble) (words : List (List ℕ)) (line : Line)
@@ -127,3 +128,14 @@ call_line-read preamble (mutator ∷ word ∷ arguments) line h =
       };
     })
 call_line-read preamble words line h = absurd cc
+
+-- so its words are read as it again
+pub call_line-again : (preamble : Preamble) (words : List (List ℕ)) (line : Line) → call_line preamble words ≡ Ok line
+    → IsReadLine preamble line
+call_line-again preamble words line h =
+    let read = call_line-read preamble words line h in sym (ap (call_line preamble) read.written) ∙ h
+
+-- a line that is read from its words is a line of a script
+pub read_line-fits : (preamble : Preamble) (line : Line) → IsReadLine preamble line → IsScriptLine preamble line
+read_line-fits preamble line h =
+    let read = call_line-read preamble (line_words preamble.names line) line h in read.fits

@@ -7,14 +7,14 @@ use Rattle.gc_layout.specs.declared.shape.Shape.{Shape}
 use Rattle.gc_layout.specs.Shape.{size_of}
 use Rattle.gc_model.specs.Interim.{IsBuilt}
 use Rattle.gc_model.specs.declared.call.Line.{Line}
-use Rattle.gc_script.proofs.CallLemmas.{call_line-read, readable-built, script_line-fit}
+use Rattle.gc_script.proofs.CallLemmas.{call_line-read, call_line-again, read_line-fits, readable-built, script_line-fit}
 use Rattle.gc_script.proofs.KindLemmas.{number_below-written}
 use Rattle.gc_script.proofs.Passed.{if-passes, both-pass, at_line-ok, not_refused-ok, bytes_eq-true}
 use Rattle.gc_script.specs.declared.fault.Cause.{Cause}
 use Rattle.gc_script.specs.declared.fault.Cause.TheVariants.{«Type» as TypeCause, Mutator}
 use Rattle.gc_script.specs.Fault.{◌>>=◌, at_line}
 use Rattle.gc_script.specs.Grammar.{mutators_line, is_type_line, is_in_use, with_type, shape_of, type_line, call_line, call_lines, script_with_calls, body, after_version, script_of_lines, IsScript}
-use Rattle.gc_script.specs.Laws.{IsEnded, IsReadBack}
+use Rattle.gc_script.specs.Laws.{IsEnded, IsReadBack, IsReadLine}
 use Rattle.gc_script.specs.Script.{Preamble, Script, IsFitLine, IsScriptLine, first_preamble}
 use Rattle.gc_script.specs.Text.{with_first, lines_of, words_of}
 use Rattle.gc_script.specs.Words.{small, number, is_type_name}
@@ -117,15 +117,15 @@ newline-ends bytes h = ap lines_of (sym h) ∙ lines-again bytes
 line-spelled : (line : List ℕ) (words : List (List ℕ)) → words_of line ≡ words → line ++ 10 ∷ [] ≡ spelled_line words
 line-spelled line words h = ap (λ l. l ++ 10 ∷ []) (sym (words-joined line) ∙ ap joined h)
 
--- the call lines are the texts of their calls, and fit
+-- the call lines are the texts of their calls, and are read from them
 pub record AreCallLines (preamble : Preamble) (lines : List (List ℕ)) (calls : List Line) : Type 0 where
   pub text : ended lines ≡ flat_map (call_text preamble.names) calls
-  pub fit : All (IsScriptLine preamble) calls
+  pub again : All (IsReadLine preamble) calls
 
 pub call_lines-read : (preamble : Preamble) (line_number : ℕ) (lines : List (List ℕ)) (calls : List Line)
     → call_lines preamble line_number lines ≡ Ok calls → AreCallLines preamble lines calls
 unfolding call_lines
-call_lines-read preamble line_number [] [] h = record { text = refl; fit = All-nil (IsScriptLine preamble) }
+call_lines-read preamble line_number [] [] h = record { text = refl; again = All-nil (IsReadLine preamble) }
 call_lines-read preamble line_number [] (call ∷ calls) h = absurd cc
 call_lines-read preamble line_number (line ∷ lines) [] h =
     let first = both-pass (at_line line_number (call_line preamble (words_of line))) _ _ h in
@@ -137,11 +137,12 @@ call_lines-read preamble line_number (line ∷ lines) (call ∷ calls) h =
     let head : first.value ≡ call = cc (others.next_gives) in
     let tail : others.value ≡ calls = cc (others.next_gives) in
     let line_gives = at_line-ok line_number (call_line preamble (words_of line)) first.value first.first_gives in
-    let read = call_line-read preamble (words_of line) call (line_gives ∙ ap Ok head) in
+    let call_gives = line_gives ∙ ap Ok head in
+    let read = call_line-read preamble (words_of line) call call_gives in
     let rest = call_lines-read preamble (line_number + 1) lines calls (others.first_gives ∙ ap Ok tail) in
     record {
       text = ap₂ ◌++◌ (line-spelled line _ read.written) rest.text;
-      fit = All-cons (IsScriptLine preamble) call calls read.fits rest.fit;
+      again = All-cons (IsReadLine preamble) call calls (call_line-again preamble (words_of line) call call_gives) rest.again;
     }
 
 -- the words of a type line, and what is declared behind it
@@ -207,7 +208,7 @@ pub record IsSpelled (preamble : Preamble) (lines : List (List ℕ)) (script : S
   pub names_behind : script.preamble.names ≡ preamble.names ++ names
   pub types_behind : script.preamble.types ≡ preamble.types ++ types
   pub counted : length names ≡ length types
-  pub fit : All (IsScriptLine script.preamble) script.lines
+  pub again : All (IsReadLine script.preamble) script.lines
   pub text : ended lines ≡ types_text names types ++ flat_map (call_text script.preamble.names) script.lines
 
 -- lines that are calls alone declare no type
@@ -225,7 +226,7 @@ calls-spelled preamble line_number lines script h =
       names_behind = sym (append-nil preamble.names);
       types_behind = sym (append-nil preamble.types);
       counted = refl;
-      fit = read.fit;
+      again = read.again;
       text = read.text;
     })
 
@@ -241,7 +242,7 @@ type-spelled preamble next line lines script ty rest = record {
   types_behind = rest.types_behind ∙ ap (λ (p : Preamble). p.types ++ rest.types) ty.declared
       ∙ append_assoc preamble.types (ty.shape ∷ []) rest.types;
   counted = ap suc rest.counted;
-  fit = rest.fit;
+  again = rest.again;
   text = ap₂ ◌++◌ (line-spelled line _ ty.spelled) rest.text
       ∙ sym (append_assoc (type_text ty.name ty.shape) (types_text rest.names rest.types)
       (flat_map (call_text script.preamble.names) script.lines));
@@ -312,7 +313,7 @@ written-parts mutators lines script rest = ap (λ l. version ++ l) behind where
 pub record IsReadFrom (lines : List (List ℕ)) (script : Script) : Type 0 where
   pub text : written script ≡ ended lines
   pub types : length script.preamble.names + 1 ≡ length script.preamble.types
-  pub fit : All (IsScriptLine script.preamble) script.lines
+  pub again : All (IsReadLine script.preamble) script.lines
 
 -- one type is there before the type lines, and one more with each of them
 types-counted : (mutators : ℕ) (lines : List (List ℕ)) (script : Script) → IsSpelled (first_preamble mutators) lines script
@@ -341,7 +342,7 @@ lines-read (version ∷ second ∷ lines) script h =
     record {
       text = written-parts mutators.value lines script rest ∙ sym (ap₂ ◌++◌ one (ap (λ l. l ++ ended lines) two));
       types = types-counted mutators.value lines script rest;
-      fit = rest.fit;
+      again = rest.again;
     }
 
 -- an accepted text is what its script is written as, but for its last newline
@@ -372,10 +373,16 @@ texts-differ script another one two same =
     let both : Ok script ≡ script_of_lines (lines_of (written another)) = sym one ∙ ap (λ text. script_of_lines (lines_of text)) same in
     cc
 
--- each line of a script that is read back fits
-pub read_back-lines : (script : Script) → IsReadBack script → All (IsScriptLine script.preamble) script.lines
+-- each line of a script that is read back is read from its words
+pub read_back-again : (script : Script) → IsReadBack script → All (IsReadLine script.preamble) script.lines
 unfolding IsReadBack
-read_back-lines script h = let read = lines-read (lines_of (written script)) script h in read.fit
+read_back-again script h = let read = lines-read (lines_of (written script)) script h in read.again
+
+-- so it is a line of a script
+pub read_back-lines : (script : Script) → IsReadBack script → All (IsScriptLine script.preamble) script.lines
+read_back-lines script h =
+    All-weaker (IsReadLine script.preamble) (IsScriptLine script.preamble) (read_line-fits script.preamble) script.lines
+    (read_back-again script h)
 
 -- and each type of it but the first has a name
 pub read_back-types : (script : Script) → IsReadBack script → length script.preamble.names + 1 ≡ length script.preamble.types

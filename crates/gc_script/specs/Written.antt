@@ -56,9 +56,13 @@ words_of_parts names (Some parts) = spelled_word parts.0 ∷ words_of_kinds name
 abbrev pub call_words : List (List ℕ) → Call → List (List ℕ)
 call_words names call = words_of_parts names (parts_of call)
 
--- a call line: the mutator, and the words of its call
+-- the words of a call line: the mutator, and those of its call
+abbrev pub line_words : List (List ℕ) → Line → List (List ℕ)
+line_words names line = decimal line.mutator ∷ call_words names line.call
+
+-- a call line
 abbrev pub call_text : List (List ℕ) → Line → List ℕ
-call_text names line = spelled_line (decimal line.mutator ∷ call_words names line.call)
+call_text names line = spelled_line (line_words names line)
 
 -- a type line: the name, and how many slots and numbers
 abbrev pub type_text : List ℕ → Shape → List ℕ

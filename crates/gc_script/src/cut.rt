@@ -1,4 +1,6 @@
-//! Cutting a text into lines, and a line into words.
+//! Cutting a text into lines, and a line into words, in one pass: a word ends at the first space or newline, and a
+//! space says that its line goes on. What stays true is that the words so far, and then those of what is behind them,
+//! are the line's.
 
 ghost use Rattle.std.specs.Prelude.{◌≡◌, ◌<◌, ◌≤◌, ◌∷◌, ◌++◌, [], true, map, take, length, MatchOption, IfSome};
 ghost use Rattle.gc_script.specs.Text.{lines_of, words_of, bytes_before, first_line, after_line, word_end, words_from, after_from};

@@ -1,5 +1,5 @@
 //! Reading a whole text, line by line: the version line, the line of the mutators, the type lines, and the call lines.
-//! Each loop reads one line and goes on behind it. What it keeps true is that the lines behind, read with what was
+//! Each loop reads one line and goes on behind it. What stays true is that the lines behind, read with what was
 //! read so far, give what the whole text gives; so the first line that fails a test is the first fault.
 
 ghost use Rattle.std.specs.Prelude.{◌≡◌, ℕ, ◌+◌, ◌^◌, ◌<◌, ◌≤◌, ◌↔◌, ◌⊎◌, length, map, Err, IfOk, IsErrOf, MatchResult};
@@ -42,7 +42,7 @@ pub fn read_script(alloc: Global, bytes: &[u8]) -> Result<Script, ScriptFault>
     ensures long { IsErrOf result ScriptFault.Long ↔ (most_bytes < length bytes.now) }
     ensures bad { (line cause : ℕ) → result ≡ Err (ScriptFault.Bad line cause)
         → (length bytes.now ≤ most_bytes) × IsFirstFault bytes.now line cause }
-    // The first fault is told, where memory is found, and a text without one is read.
+    // The first fault is told, where memory suffices, and a text without one is read.
     ensures bad_is_told { (line cause : ℕ) → length bytes.now ≤ most_bytes → IsFirstFault bytes.now line cause
         → (result ≡ Err (ScriptFault.Bad line cause)) ⊎ (result ≡ Err ScriptFault.NoMemory) }
     ensures complete { (script : Script) → length bytes.now ≤ most_bytes → IsScript bytes.now script

@@ -34,7 +34,7 @@ impl Model for Script {
 
 impl Script {
     ghost use Rattle.std.specs.Prelude.{All};
-    ghost use Rattle.gc_script.specs.Laws.{IsReadBack};
+    ghost use Rattle.gc_script.specs.Laws.{IsReadBack, IsReadLine};
     ghost use Rattle.gc_script.specs.Script.{IsFitLine, IsScriptLine, number_of_line};
 
     pub(crate) fn new(preamble: Preamble, lines: Lines) -> Script
@@ -82,10 +82,12 @@ impl Script {
         self.lines.len()
     }
 
-    /// A call line, counted from 0: one that a call line can be read as. None exactly where `i` isn't below the count.
+    /// A call line, counted from 0, which is read from the words that it is written as. None exactly where `i` isn't
+    /// below the count.
     pub fn line(&self, i: usize) -> Option<Line>
         ensures line { result ≡ slice_get self.now.lines i }
         ensures none { IsNone result ↔ (length self.now.lines ≤ i) }
+        ensures read_back { IfSome result (IsReadLine self.now.preamble) }
         ensures readable { IfSome result (IsScriptLine self.now.preamble) }
         ensures fit { IfSome result (IsFitLine self.now.preamble) }
         ensures built { IfSome result (λ line. IsBuilt line.call) }

@@ -1,4 +1,5 @@
-//! The one spelling of each line of a script.
+//! The one spelling of each line of a script. A line is built word by word in a fixed room, which is more than the
+//! longest line takes: each function says how much longer it makes the line.
 
 ghost use Rattle.std.specs.Prelude.{◌≡◌, ◌+◌, ◌*◌, ◌<◌, ◌≤◌, [], ◌∷◌, ◌++◌, length, codes, decimal};
 ghost use Rattle.gc_script.specs.Written.{spelled_line, spaced, register_word, word_of, words_of_kinds, call_words, call_text, type_text};

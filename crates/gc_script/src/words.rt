@@ -26,6 +26,41 @@ pub(crate) fn number(word: &[u8]) -> Result<u64, Cause>
     }
 }
 
+/// A number at most 255.
+pub(crate) fn small(word: &[u8]) -> Result<u8, Cause>
+    ensures { result ≡ small word.now }
+{
+    let value = number_below(256, Cause::Number, word)?;
+    Ok(value as u8)
+}
+
+/// A number at most 15, a place of the common object.
+pub(crate) fn common_place(word: &[u8]) -> Result<u64, Cause>
+    ensures { result ≡ common_place word.now }
+{
+    number_below(SIXTEEN, Cause::Number, word)
+}
+
+/// `r` and a number at most 15: the number of a register.
+#[tactic(auto, unfolding(crate::specs::Words::register))]
+pub(crate) fn register(word: &[u8]) -> Result<u64, Cause>
+    ensures { result ≡ register word.now }
+{
+    match word {
+        [b'r', digits @ ..] => number_below(SIXTEEN, Cause::Register, digits),
+        _ => Err(Cause::Register),
+    }
+}
+
+/// A number below that of the script's mutators.
+pub(crate) fn mutator_below(mutators: u8, word: &[u8]) -> Result<u8, Cause>
+    ensures value { result ≡ number_below mutators Mutator word.now }
+    ensures below { IfOk result (λ mutator. mutator < mutators) }
+{
+    let value = number_below(u64::from(mutators), Cause::Mutator, word)?;
+    Ok(value as u8)
+}
+
 /// A number below a limit.
 #[tactic(auto, unfolding(crate::specs::Words::number_below))]
 fn number_below(limit: u64, cause: Cause, word: &[u8]) -> Result<u64, Cause>
@@ -36,14 +71,6 @@ fn number_below(limit: u64, cause: Cause, word: &[u8]) -> Result<u64, Cause>
         Some(value) if value < limit => Ok(value),
         _ => Err(cause),
     }
-}
-
-/// A number at most 255.
-pub(crate) fn small(word: &[u8]) -> Result<u8, Cause>
-    ensures { result ≡ small word.now }
-{
-    let value = number_below(256, Cause::Number, word)?;
-    Ok(value as u8)
 }
 
 /// The number that a numeral writes. None where it is no numeral, or above 18446744073709551615.
@@ -70,33 +97,6 @@ fn value_of(digits: &[u8]) -> Option<u64>
         value = tens.checked_add(u64::from(*byte - b'0'))?;
     }
     Some(value)
-}
-
-/// A number at most 15, a place of the common object.
-pub(crate) fn common_place(word: &[u8]) -> Result<u64, Cause>
-    ensures { result ≡ common_place word.now }
-{
-    number_below(SIXTEEN, Cause::Number, word)
-}
-
-/// A number below that of the script's mutators.
-pub(crate) fn mutator_below(mutators: u8, word: &[u8]) -> Result<u8, Cause>
-    ensures value { result ≡ number_below mutators Mutator word.now }
-    ensures below { IfOk result (λ mutator. mutator < mutators) }
-{
-    let value = number_below(u64::from(mutators), Cause::Mutator, word)?;
-    Ok(value as u8)
-}
-
-/// `r` and a number at most 15: the number of a register.
-#[tactic(auto, unfolding(crate::specs::Words::register))]
-pub(crate) fn register(word: &[u8]) -> Result<u64, Cause>
-    ensures { result ≡ register word.now }
-{
-    match word {
-        [b'r', digits @ ..] => number_below(SIXTEEN, Cause::Register, digits),
-        _ => Err(Cause::Register),
-    }
 }
 
 /// Whether the word is 1 to 16 bytes `a` to `z`.

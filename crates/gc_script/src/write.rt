@@ -1,4 +1,6 @@
-//! Writing a script in its one spelling.
+//! Writing a script in its one spelling, a line a piece: the version line, the line of the mutators, the type lines,
+//! and the call lines. What stays true in each loop is that the sink got the lines so far, and that they and the text
+//! of those that are left are the whole text.
 
 ghost use Rattle.std.specs.Prelude.{◌≡◌, ◌+◌, ◌<◌, ◌≤◌, [], length, flat_map, slice_get, slice_index_or, IfSome};
 ghost use Rattle.gc_io.specs.Faults.{HasRisen};
