@@ -52,24 +52,6 @@ fn push_reply(line: &mut TextLine, reply: &Reply)
     }
 }
 
-/// A number in decimal, behind what stands there.
-fn push_number(line: &mut TextLine, number: u64)
-    requires { length line.old.bytes ≤ 44 }
-    ensures text { line.new.bytes ≡ line.old.bytes ++ decimal number }
-    ensures short { length (decimal number) ≤ 20 }
-{
-    let mut buffer = Buffer::new();
-    push(line, buffer.format(number));
-}
-
-/// A text, behind what stands there.
-fn push(line: &mut TextLine, text: &str)
-    requires { length line.old.bytes + length text.now ≤ 64 }
-    ensures { line.new.bytes ≡ line.old.bytes ++ text.now }
-{
-    let _ = line.try_push_str(text);
-}
-
 /// The line of a status on standard error; nothing for Done.
 pub(crate) fn status_line(status: Status) -> TextLine
     ensures { result.bytes ≡ status_line status }
@@ -116,4 +98,22 @@ fn cause_text(cause: u8) -> &'static str
         6 => "mutator",
         _ => "duplicate",
     }
+}
+
+/// A number in decimal, behind what stands there.
+fn push_number(line: &mut TextLine, number: u64)
+    requires { length line.old.bytes ≤ 44 }
+    ensures text { line.new.bytes ≡ line.old.bytes ++ decimal number }
+    ensures short { length (decimal number) ≤ 20 }
+{
+    let mut buffer = Buffer::new();
+    push(line, buffer.format(number));
+}
+
+/// A text, behind what stands there.
+fn push(line: &mut TextLine, text: &str)
+    requires { length line.old.bytes + length text.now ≤ 64 }
+    ensures { line.new.bytes ≡ line.old.bytes ++ text.now }
+{
+    let _ = line.try_push_str(text);
 }
