@@ -2,6 +2,7 @@
 use Rattle.std.specs.Prelude.{◌≡◌, ℕ, ◌+◌, ◌<◌, ◌≤◌, List, [], ◌++◌, length, Option, IfSome, false}
 use Rattle.gc_io.specs.Faults.{HasRisen}
 use Rattle.gc_io.specs.Streams.{GivesUp, Appends, AppendsPrefix}
+use Rattle.gc_layout.specs.Sizes.{largest_size}
 use Rattle.gc_model.specs.History.{Configuration, History, FitsScript, lines_in, ends_of}
 use Rattle.gc_model.specs.Legal.{IsLegal}
 use Rattle.gc_script.specs.Grammar.{IsScript, IsFirstFault}
@@ -76,7 +77,7 @@ pub record TakesMore (old new : Option (List ℕ)) (room : ℕ) (bytes_old bytes
 
 -- the options are within their limits
 pub record AreAllowed (opts : Opts) : Type 0 where
-  pub least_half : 64 ≤ opts.nursery
+  pub least_half : largest_size ≤ opts.nursery
   pub most_half : opts.nursery ≤ 65536
   pub some_pages : 1 ≤ opts.pages
   pub most_pages : opts.pages ≤ 128

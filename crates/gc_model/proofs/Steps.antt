@@ -10,7 +10,7 @@ use Rattle.gc_model.specs.declared.entry.Entry.{Entry}
 use Rattle.gc_model.specs.declared.entry.Entry.TheVariants.{Made, Run}
 use Rattle.gc_model.specs.declared.reply.Reply.{Reply}
 use Rattle.gc_model.specs.declared.reply.Reply.TheVariants.{Full, Found, Range, Yes}
-use Rattle.gc_model.specs.Answer.{Answer, keeps, does, blocked_refusal, owner_of, unless_refused, on_owner, loads, swaps, effect, answer, with_new}
+use Rattle.gc_model.specs.Answer.{Answer, keeps, does, blocked_refusal, base_object, unless_refused, on_owner, loads, swaps, effect, answer, with_new}
 use Rattle.gc_model.specs.History.{is_done, world_after_entry}
 use Rattle.gc_model.specs.Step.{IsAvailable, IsEntryStep, IsStep, as_nothing, by_register, by_slot, unchanged, mutator_changed, slot_changed, number_changed, object_added}
 use Rattle.gc_model.specs.World.{World, is_blocked, mutator_at, named_by, slot_at, with_blocked, with_mutator, with_number, with_register}
@@ -52,7 +52,7 @@ loads-step types t call room world into (Some number) available = register-step 
 on_owner-step : (types : List Shape) (t : ℕ) (call : Call) (room : Bool) (world : World)
     (base : Option ℕ) (count : ℕ → ℕ) (place : ℕ) (made : ℕ → Answer)
     → ((number : ℕ) → base ≡ Some number → place < count number → IsStep types t call room world (made number).world)
-    → IsStep types t call room world (on_owner world (owner_of base count place) made).world
+    → IsStep types t call room world (on_owner world (base_object base count place) made).world
 on_owner-step types t call room world None count place made each = unchanged refl
 on_owner-step types t call room world (Some number) count place made each =
     cond_both (nat_lt place (count number)) (Ok number) (Err Range)

@@ -3,6 +3,7 @@
 use Rattle.std.specs.Prelude.{ℕ, ◌<◌, List, length, replicate, Option, None, Some, Result, Ok, Err, slice_index_or, Bool, true, false, ◌==◌, nat_lt, if◌then◌else◌}
 use Rattle.gc_layout.specs.declared.shape.Shape.{Shape}
 use Rattle.gc_layout.specs.Shape.{common_shape}
+use Rattle.gc_layout.specs.Sizes.{common_slots, register_count}
 use Rattle.gc_model.specs.declared.call.Call.{Call}
 use Rattle.gc_model.specs.declared.call.Call.TheVariants.{New, Get, Put, Ask, Set, SwapIf, Same, CopyReg, ClearReg, Share, Take, Await, Safepoint, Block, Unblock, Collect, End}
 use Rattle.gc_model.specs.declared.reply.Reply.{Reply}
@@ -33,17 +34,17 @@ blocked_refusal false Unblock = Some NotBlocked
 blocked_refusal false call = None
 
 -- the object that a base names: refused where it names nothing, or where the place is at or above the object's count
-abbrev pub owner_of : Option ℕ → (ℕ → ℕ) → ℕ → Result ℕ Reply
-owner_of None count place = Err NilBase
-owner_of (Some number) count place = if nat_lt place (count number) then Ok number else Err Range
+abbrev pub base_object : Option ℕ → (ℕ → ℕ) → ℕ → Result ℕ Reply
+base_object None count place = Err NilBase
+base_object (Some number) count place = if nat_lt place (count number) then Ok number else Err Range
 
 -- the object whose slot is meant, or the refusal
 abbrev pub slot_owner : World → ℕ → ℕ → ℕ → Result ℕ Reply
-slot_owner world t base place = owner_of (named_by world t base) (λ number. length (object_at world.graph number).slots) place
+slot_owner world t base place = base_object (named_by world t base) (λ number. length (object_at world.graph number).slots) place
 
 -- the object whose number is meant, or the refusal
 abbrev pub number_owner : World → ℕ → ℕ → ℕ → Result ℕ Reply
-number_owner world t base place = owner_of (named_by world t base) (λ number. length (object_at world.graph number).numbers) place
+number_owner world t base place = base_object (named_by world t base) (λ number. length (object_at world.graph number).numbers) place
 
 -- what is answered where nothing refuses the call
 abbrev pub unless_refused : World → Option Reply → Answer → Answer
@@ -109,7 +110,7 @@ effect types world t room Safepoint = does world
 effect types world t room Block = does (with_blocked world t true)
 effect types world t room Unblock = does (with_blocked world t false)
 effect types world t room Collect = does world
-effect types world t room End = does (with_mutator world t (record { registers = replicate 16 None; blocked = true }))
+effect types world t room End = does (with_mutator world t (record { registers = replicate register_count None; blocked = true }))
 
 -- the graph's answer; a New that no refusal meets is Done exactly where there is room
 abbrev pub answer : List Shape → World → ℕ → Call → Bool → Answer
@@ -118,9 +119,9 @@ answer types world t call room = unless_refused world (blocked_refusal (is_block
 -- a call's type is one of so many, and its place on the common object is below 16
 abbrev pub Suits : ℕ → Call → Type 0
 Suits types (New into ty) = ty.0 < types
-Suits types (Share place value) = place < 16
-Suits types (Take into place) = place < 16
-Suits types (Await into place) = place < 16
+Suits types (Share place value) = place < common_slots
+Suits types (Take into place) = place < common_slots
+Suits types (Await into place) = place < common_slots
 Suits types call = Unit {0}
 
 -- a fit call: the mutator is there, the type is known, and the place of the common object is below 16

@@ -3,6 +3,7 @@
 use Rattle.std.specs.Prelude.{◌≡◌, ℕ, ◌<◌, ◌⊎◌, ◌++◌, ◌∷◌, List, [], Option, length, map, All, IfSome}
 use Rattle.gc_layout.specs.declared.shape.Shape.{Shape}
 use Rattle.gc_layout.specs.Types.{AreTypes}
+use Rattle.gc_layout.specs.Sizes.{register_count}
 use Rattle.gc_model.specs.declared.entry.Entry.{Entry}
 use Rattle.gc_model.specs.declared.entry.Entry.TheVariants.{Made, Run}
 use Rattle.gc_model.specs.Answer.{IsFit, shape_at}
@@ -45,7 +46,7 @@ AreThere count names = All (IsThere count) names
 -- the common object is there, each mutator has 16 registers, and registers and slots name objects that are there
 pub record IsSound (world : World) : Type 0 where
   pub common : 0 < length world.graph
-  pub registers : All (λ mutator. (length mutator.registers ≡ 16) × AreThere (length world.graph) mutator.registers) world.mutators
+  pub registers : All (λ mutator. (length mutator.registers ≡ register_count) × AreThere (length world.graph) mutator.registers) world.mutators
   pub slots : All (λ object. AreThere (length world.graph) object.slots) world.graph
 
 -- after every history each name is an object's

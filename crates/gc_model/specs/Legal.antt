@@ -3,6 +3,7 @@
 use Rattle.std.specs.Prelude.{◌≡◌, ℕ, ◌+◌, ◌*◌, ◌≤◌, [], ◌∷◌, ◌++◌, fold, Bool, true, false, ◌==◌, if◌then◌else◌, IsTrue}
 use Rattle.std.specs.List.{list_any}
 use Rattle.gc_layout.specs.Shape.{size_of}
+use Rattle.gc_layout.specs.Sizes.{page_words}
 use Rattle.gc_model.specs.declared.call.Call.TheVariants.{New, Collect}
 use Rattle.gc_model.specs.declared.reply.Reply.TheVariants.{Done}
 use Rattle.gc_model.specs.declared.entry.Entry.{Entry}
@@ -22,7 +23,7 @@ ReplyIsTheGraphs heap before (Run report) = Unit {0}
 -- the heap's size is kept: the reachable words and a new object fit it together
 abbrev pub KeepsSize : Configuration → History → Entry → Type 0
 KeepsSize heap before (Made t (New into ty) Done) =
-    (live (world_after heap before)).words + size_of (shape_at heap.types ty.0) ≤ heap.mutators * (heap.nursery + 1024 * heap.pages)
+    (live (world_after heap before)).words + size_of (shape_at heap.types ty.0) ≤ heap.mutators * (heap.nursery + page_words * heap.pages)
 KeepsSize heap before entry = Unit {0}
 
 -- whether an entry is a mutator's own

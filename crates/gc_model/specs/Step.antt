@@ -3,6 +3,7 @@
 use Rattle.std.specs.Prelude.{◌≡◌, ◌⊎◌, ℕ, ◌<◌, List, length, All, Option, None, Some, Bool, true}
 use Rattle.gc_layout.specs.declared.shape.Shape.{Shape}
 use Rattle.gc_layout.specs.declared.shape.TypeNo.{TypeNo}
+use Rattle.gc_layout.specs.Sizes.{register_count}
 use Rattle.gc_model.specs.declared.call.Call.{Call}
 use Rattle.gc_model.specs.declared.call.Call.TheVariants.{New}
 use Rattle.gc_model.specs.declared.entry.Entry.{Entry}
@@ -39,7 +40,7 @@ HasNumber world number place = (number < length world.graph) × (place < length 
 
 -- a mutator's 16 registers stay as many, and come to name only what it can come by
 pub record IsOwnChange (world : World) (t : ℕ) (mutator : Mutator) : Type 0 where
-  pub sixteen : length (mutator_at world t).registers ≡ 16 → length mutator.registers ≡ 16
+  pub sixteen : length (mutator_at world t).registers ≡ register_count → length mutator.registers ≡ register_count
   pub names : All (IsAvailable world t) mutator.registers
 
 -- a call of a mutator leads from one world to another: nothing changes, or the mutator, one slot or one number of an

@@ -1,5 +1,6 @@
 -- The world: the graph, and what the registers of the mutators name.
 use Rattle.std.specs.Prelude.{ℕ, List, [], ◌∷◌, ◌++◌, replicate, Option, None, slice_index, slice_index_or, slice_set, Bool, false}
+use Rattle.gc_layout.specs.Sizes.{register_count}
 use Rattle.gc_model.specs.Graph.{Object, Graph, common_object, object_at}
 
 -- a mutator: what its 16 registers name, and whether it is blocked
@@ -13,7 +14,7 @@ pub record World : Type 0 where
 
 -- a mutator that has done nothing yet
 abbrev pub fresh_mutator : Mutator
-fresh_mutator = record { registers = replicate 16 None; blocked = false }
+fresh_mutator = record { registers = replicate register_count None; blocked = false }
 
 -- the first world has the common object alone; all registers are nothing and nobody is blocked
 abbrev pub first_world : ℕ → World

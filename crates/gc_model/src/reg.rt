@@ -1,10 +1,9 @@
 //! A register's number.
 ghost use Rattle.std.specs.Prelude.{◌≡◌, ◌<◌, ◌≤◌, ◌↔◌, IsNone, IfSome};
+ghost use Rattle.gc_layout.specs.Sizes.{register_count};
 
+use gc_layout::REGISTERS;
 use std::marker::Model;
-
-/// How many registers a mutator has.
-const REGISTERS: u8 = 16;
 
 /// A register of a mutator, seen as its number, 0 to 15.
 #[derive(Clone, Copy, Debug, PartialEq, Eq)]
@@ -14,12 +13,13 @@ pub struct Reg {
 
 impl Model for Reg {
     ghost use Rattle.std.specs.Prelude.{ℕ, ◌<◌};
+    ghost use Rattle.gc_layout.specs.Sizes.{register_count};
 
     ghost Value = { ℕ };
 
     ghost view = { λ r. r.number };
 
-    ghost invariant = { λ r. r.number < 16 };
+    ghost invariant = { λ r. r.number < register_count };
 
     ghost inverse = { λ n. record { number = n } };
 }
@@ -28,7 +28,7 @@ impl Reg {
     /// The register of this number. None exactly where it is 16 or more.
     pub fn make(n: u8) -> Option<Reg>
         ensures same { IfSome result (λ reg. reg ≡ n) }
-        ensures none { IsNone result ↔ (16 ≤ n) }
+        ensures none { IsNone result ↔ (register_count ≤ n) }
     {
         if n < REGISTERS {
             Some(Reg { number: n })
@@ -40,7 +40,7 @@ impl Reg {
     /// The register's number, 0 to 15.
     pub fn index(self) -> u8
         ensures index { result ≡ self }
-        ensures below { result < 16 }
+        ensures below { result < register_count }
     {
         self.number
     }

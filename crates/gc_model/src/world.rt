@@ -3,6 +3,7 @@
 //! else it is made: a New takes memory for one object, and each other call changes one register, slot or number at
 //! most. What is reachable is counted by a search from the common object and the registers.
 ghost use Rattle.std.specs.Prelude.{◌≡◌, ◌<◌, ◌≤◌, Bool, true, length, replicate, IfOk, OnOk, OnErr};
+ghost use Rattle.gc_layout.specs.Sizes.{largest_size};
 ghost use Rattle.gc_model.specs.Answer.{answer, effect, IsFit, IsNew, Suits};
 ghost use Rattle.gc_model.specs.Graph.{fresh_object, object_size};
 ghost use Rattle.gc_model.specs.World.{first_world, fresh_mutator};
@@ -14,15 +15,12 @@ mod registers;
 mod worklist;
 
 use crate::{Call, Reg, Reply};
-use gc_layout::{NoMemory, Shape, TypeNo, Types};
+use gc_layout::{NoMemory, REGISTERS, Shape, TypeNo, Types};
 use std::alloc::{AllocError, Global};
 use std::marker::Model;
 
-/// The shape of the common object.
-const COMMON: Shape = Shape {
-    slots: 16,
-    numbers: 0,
-};
+/// How many registers a mutator has.
+const REGISTER_COUNT: usize = REGISTERS as usize;
 
 /// How many objects are reachable, and the sum of their sizes in words.
 #[derive(Clone, Copy, Debug, PartialEq, Eq)]
@@ -63,7 +61,7 @@ impl World {
     fn try_make(alloc: Global, types: &Types, mutators: u8) -> Result<World, AllocError>
         ensures { IfOk result (λ made. made ≡ record { types = types.now; world = first_world mutators }) }
     {
-        let common = Object::fresh(alloc, TypeNo(0), None, COMMON)?;
+        let common = Object::fresh(alloc, TypeNo(0), None, Shape::COMMON)?;
         let mut objects = Vec::new(alloc);
         objects.push(common)?;
         Ok(World {
@@ -215,7 +213,7 @@ impl Object {
 
     /// The size in words: header, forwarding word, slots and numbers.
     fn size(&self) -> u64
-        requires { object_size self.now ≤ 64 }
+        requires { object_size self.now ≤ largest_size }
         ensures { result ≡ object_size self.now }
     {
         2 + self.slots.len() as u64 + self.numbers.len() as u64
@@ -225,7 +223,7 @@ impl Object {
 /// A mutator: what its registers name, and whether it is blocked.
 #[derive(Debug, Drop)]
 struct Mutator {
-    registers: [Option<usize>; 16],
+    registers: [Option<usize>; REGISTER_COUNT],
     blocked: bool,
 }
 
@@ -244,7 +242,7 @@ fn fresh_mutators(alloc: Global, count: u8) -> Result<Vec<Mutator>, AllocError>
     let mut mutators = Vec::new(alloc);
     for _ in 0..count {
         mutators.push(Mutator {
-            registers: [None; 16],
+            registers: [None; REGISTER_COUNT],
             blocked: false,
         })?;
     }

@@ -2,6 +2,7 @@
 -- their numbers. The grammar and the written text both go by it.
 use Rattle.std.specs.Prelude.{ℕ, ◌<◌, ◌^◌, List, [], ◌∷◌, slice_index, Option, None, Some, Result, Ok, Err, if◌then◌else◌, codes}
 use Rattle.std.specs.Str.{bytes_eq}
+use Rattle.gc_layout.specs.Sizes.{common_slots, register_count}
 use Rattle.gc_model.specs.declared.call.Call.{Call}
 use Rattle.gc_model.specs.declared.call.Call.TheVariants as calls
 use Rattle.gc_script.specs.declared.calls.CallWord.{CallWord}
@@ -102,9 +103,9 @@ parts_of calls.End = None
 
 -- a number that a word of a kind can give, where there are so many types
 abbrev pub IsOfKind : ℕ → Kind → ℕ → Type 0
-IsOfKind types Register number = number < 16
+IsOfKind types Register number = number < register_count
 IsOfKind types Small number = number < 256
-IsOfKind types CommonPlace number = number < 16
+IsOfKind types CommonPlace number = number < common_slots
 IsOfKind types Number number = number < 2 ^ 64
 IsOfKind types TypeName number = (0 < number) × (number < types)
 

@@ -4,6 +4,7 @@ use Rattle.std.specs.Str.{bytes_eq}
 use Rattle.std.specs.List.{list_any}
 use Rattle.gc_layout.specs.declared.shape.Shape.{Shape}
 use Rattle.gc_layout.specs.Shape.{size_of}
+use Rattle.gc_layout.specs.Sizes.{largest_size}
 use Rattle.gc_model.specs.declared.call.Line.{Line}
 use Rattle.gc_script.specs.declared.calls.CallWord.{CallWord}
 use Rattle.gc_script.specs.declared.fault.Cause.{Cause}
@@ -34,7 +35,7 @@ is_in_use names name = bytes_eq name (codes "common") || list_any (λ declared. 
 -- what is declared with one more type, of at most 64 words, where there are fewer than 256 types
 unfoldable pub with_type : Preamble → List ℕ → Shape → Result Preamble Cause
 with_type preamble name shape =
-    if nat_le (size_of shape) 64 && nat_lt (length preamble.types) 256
+    if nat_le (size_of shape) largest_size && nat_lt (length preamble.types) 256
     then Ok (record preamble { names = preamble.names ++ name ∷ []; types = preamble.types ++ shape ∷ [] })
     else Err TypeCause
 

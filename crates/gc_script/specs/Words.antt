@@ -5,6 +5,7 @@ use Rattle.std.specs.Int.{is_in_range}
 use Rattle.std.specs.Str.{all_ascii_digits, bytes_eq}
 use Rattle.std.specs.List.{list_all}
 use Rattle.std.specs.Str.Parse.{digits_value}
+use Rattle.gc_layout.specs.Sizes.{common_slots, register_count}
 use Rattle.gc_script.specs.declared.calls.Kind.{Kind}
 use Rattle.gc_script.specs.declared.calls.Kind.TheVariants as kinds
 use Rattle.gc_script.specs.declared.fault.Cause.{Cause}
@@ -40,12 +41,12 @@ small word = number_below 256 Number word
 
 -- a number at most 15, a place of the common object
 abbrev pub common_place : List ℕ → Result ℕ Cause
-common_place word = number_below 16 Number word
+common_place word = number_below common_slots Number word
 
 -- `r` and a number at most 15
 unfoldable pub register : List ℕ → Result ℕ Cause
 register [] = Err Register
-register (letter ∷ digits) = if letter == 114 then number_below 16 Register digits else Err Register
+register (letter ∷ digits) = if letter == 114 then number_below register_count Register digits else Err Register
 
 -- `a` to `z`
 abbrev pub is_letter : ℕ → Bool

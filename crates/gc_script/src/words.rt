@@ -8,9 +8,7 @@ ghost use Rattle.gc_script.specs.Words.{numeral, number_below, number, small, co
 ghost use Rattle.gc_script.specs.declared.fault.Cause.TheVariants.{Mutator};
 
 use crate::fault::Cause;
-
-/// How many registers and how many places of the common object there are.
-const SIXTEEN: u64 = 16;
+use gc_layout::{COMMON_SLOTS, REGISTERS};
 
 /// The most bytes of a type name.
 const LONGEST_NAME: usize = 16;
@@ -38,7 +36,7 @@ pub(crate) fn small(word: &[u8]) -> Result<u8, Cause>
 pub(crate) fn common_place(word: &[u8]) -> Result<u64, Cause>
     ensures { result ≡ common_place word.now }
 {
-    number_below(SIXTEEN, Cause::Number, word)
+    number_below(u64::from(COMMON_SLOTS), Cause::Number, word)
 }
 
 /// `r` and a number at most 15: the number of a register.
@@ -47,7 +45,7 @@ pub(crate) fn register(word: &[u8]) -> Result<u64, Cause>
     ensures { result ≡ register word.now }
 {
     match word {
-        [b'r', digits @ ..] => number_below(SIXTEEN, Cause::Register, digits),
+        [b'r', digits @ ..] => number_below(u64::from(REGISTERS), Cause::Register, digits),
         _ => Err(Cause::Register),
     }
 }

@@ -1,6 +1,7 @@
 //! The calls on slots and on numbers, of an object that a register names or of the common one. Each first finds the
 //! object that is meant, or its refusal.
 ghost use Rattle.std.specs.Prelude.{◌≡◌, ◌<◌, true, length, IfOk, IfSome};
+ghost use Rattle.gc_layout.specs.Sizes.{common_slots};
 ghost use Rattle.gc_model.specs.Answer.{effect, number_owner, slot_owner};
 ghost use Rattle.gc_model.specs.Graph.{object_at};
 ghost use Rattle.gc_model.specs.Plain.{with_world};
@@ -47,7 +48,7 @@ impl World {
     /// Stores into a slot of the common object.
     pub(crate) fn share(&mut self, t: u8, place: u8, value: Reg)
         requires mutator { t < length self.old.world.mutators }
-        requires within { place < 16 }
+        requires within { place < common_slots }
         ensures { self.new ≡ with_world self.old (with_slot self.old.world 0 place (named_by self.old.world t value)) }
     {
         // The common object is there, and has 16 slots.
@@ -59,7 +60,7 @@ impl World {
     /// Loads a slot of the common object.
     pub(crate) fn take(&mut self, t: u8, into: Reg, place: u8) -> Reply
         requires mutator { t < length self.old.world.mutators }
-        requires within { place < 16 }
+        requires within { place < common_slots }
         ensures types { self.new.types ≡ self.old.types }
         ensures took { effect self.old.types self.old.world t true (Take into place)
             ≡ record { world = self.new.world; reply = result } }

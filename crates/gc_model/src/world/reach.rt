@@ -3,6 +3,7 @@
 //! of the list nothing is left to mark. What stands in the list before the next object was scanned, so all that its
 //! slots name is marked; and whatever stands in the list was reached. So at the end exactly the reachable is marked.
 ghost use Rattle.std.specs.Prelude.{◌≡◌, ◌≤◌, length, All, IfOk};
+ghost use Rattle.gc_layout.specs.Sizes.{largest_size};
 ghost use Rattle.gc_model.specs.Graph.{object_size};
 ghost use Rattle.gc_model.specs.Laws.{AreThere};
 ghost use Rattle.gc_model.specs.Reach.{every, live, registers_of, whole};
@@ -69,7 +70,7 @@ fn mark_registers(mutators: &[Mutator], work: &mut Worklist)
 /// more than 64 words.
 fn sum_marked(objects: &[Object], work: &Worklist) -> Live
     requires marks { length work.now.marks ≡ length objects.now }
-    requires sizes { All (λ object. object_size object ≤ 64) objects.now }
+    requires sizes { All (λ object. object_size object ≤ largest_size) objects.now }
     ensures { result ≡ sum_of (marked_of objects.now work.now) }
 {
     let mut live = Live {

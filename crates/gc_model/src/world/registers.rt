@@ -1,11 +1,12 @@
 //! The calls on registers, and on whether a mutator is blocked.
 ghost use Rattle.std.specs.Prelude.{◌≡◌, ◌<◌, None, true, length, replicate, IfSome};
+ghost use Rattle.gc_layout.specs.Sizes.{register_count};
 ghost use Rattle.gc_model.specs.Answer.{effect, loads};
 ghost use Rattle.gc_model.specs.Plain.{with_world};
 ghost use Rattle.gc_model.specs.World.{is_blocked, named_by, with_blocked, with_mutator, with_register};
 ghost use Rattle.gc_model.specs.declared.call.Call.TheVariants.{Same};
 
-use crate::world::World;
+use crate::world::{REGISTER_COUNT, World};
 use crate::{Reg, Reply};
 
 impl World {
@@ -49,10 +50,10 @@ impl World {
     pub(crate) fn end(&mut self, t: u8)
         requires { t < length self.old.world.mutators }
         ensures { self.new ≡ with_world self.old
-            (with_mutator self.old.world t (record { registers = replicate 16 None; blocked = true })) }
+            (with_mutator self.old.world t (record { registers = replicate register_count None; blocked = true })) }
     {
         let mutator = &mut self.mutators[usize::from(t)];
-        mutator.registers = [None; 16];
+        mutator.registers = [None; REGISTER_COUNT];
         mutator.blocked = true;
     }
 
