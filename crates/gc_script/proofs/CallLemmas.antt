@@ -1,5 +1,5 @@
 -- The table of calls, both ways; and what a call line that is read says.
-use Rattle.std.proofs.Common.{◌≡◌, ℕ, ◌+◌, ◌<◌, List, [], ◌∷◌, length, Bool, true, false, Some, Result, Ok, Err, refl, sym, subst, ap, ap₂, ◌∙◌, arith, ◌==◌, if◌then◌else◌, decimal}
+use Rattle.std.proofs.Common.{◌≡◌, ℕ, ◌+◌, ◌<◌, List, [], ◌∷◌, length, take, Bool, true, false, Some, Result, Ok, Err, refl, sym, subst, ap, ap₂, ◌∙◌, arith, ◌==◌, if◌then◌else◌, decimal}
 use Rattle.std.proofs.lemmas.Bool.{eqb-true}
 use Rattle.std.specs.Str.{bytes_eq}
 use Rattle.gc_model.specs.Answer.{Suits}
@@ -52,6 +52,26 @@ parts-again Safepoint [] h = refl
 parts-again Block [] h = refl
 parts-again Unblock [] h = refl
 parts-again word numbers h = absurd (omega arith)
+
+-- of four numbers the first are meant, as many as the word's kinds
+pub call_from-front : (word : CallWord) (numbers : List ℕ) → length numbers ≡ 4
+    → call_from word (take (length (kinds_of word)) numbers) ≡ call_from word numbers
+call_from-front New (a ∷ b ∷ c ∷ d ∷ []) h = refl
+call_from-front Get (a ∷ b ∷ c ∷ d ∷ []) h = refl
+call_from-front Put (a ∷ b ∷ c ∷ d ∷ []) h = refl
+call_from-front Ask (a ∷ b ∷ c ∷ d ∷ []) h = refl
+call_from-front Set (a ∷ b ∷ c ∷ d ∷ []) h = refl
+call_from-front Swap (a ∷ b ∷ c ∷ d ∷ []) h = refl
+call_from-front Same (a ∷ b ∷ c ∷ d ∷ []) h = refl
+call_from-front Copy (a ∷ b ∷ c ∷ d ∷ []) h = refl
+call_from-front Clear (a ∷ b ∷ c ∷ d ∷ []) h = refl
+call_from-front Share (a ∷ b ∷ c ∷ d ∷ []) h = refl
+call_from-front Take (a ∷ b ∷ c ∷ d ∷ []) h = refl
+call_from-front Await (a ∷ b ∷ c ∷ d ∷ []) h = refl
+call_from-front Safepoint (a ∷ b ∷ c ∷ d ∷ []) h = refl
+call_from-front Block (a ∷ b ∷ c ∷ d ∷ []) h = refl
+call_from-front Unblock (a ∷ b ∷ c ∷ d ∷ []) h = refl
+call_from-front word numbers h = absurd (omega arith)
 
 -- numbers of these kinds are as many
 pub kinds-length : (types : ℕ) (kinds : List Kind) (numbers : List ℕ) → AreOfKinds types kinds numbers

@@ -10,7 +10,7 @@ use gc_layout::TypeNo;
 use gc_model::{Call, Reg};
 
 /// The most words behind a call word.
-const MOST_ARGUMENTS: usize = 4;
+pub(crate) const MOST_ARGUMENTS: usize = 4;
 
 /// The numbers behind a call word, from left to right.
 pub(crate) type Numbers = ArrayVec<u64, MOST_ARGUMENTS>;
@@ -119,11 +119,11 @@ pub(crate) fn call_word(word: &[u8]) -> Result<CallWord, Cause>
     }
 }
 
-/// The call of a call word and the numbers behind it, each one that a word of its kind can give.
-pub(crate) fn call_from(word: CallWord, numbers: &[u64]) -> Call
-    requires count { length numbers.now ≡ length (kinds_of word) }
-    requires readable { IsReadable 256 (call_from word numbers.now) }
-    ensures { result ≡ call_from word numbers.now }
+/// The call of a call word and the numbers behind it, each one that a word of its kind can give. Of the four numbers
+/// the first are meant, as many as the word's kinds.
+pub(crate) fn call_from(word: CallWord, numbers: [u64; MOST_ARGUMENTS]) -> Call
+    requires { IsReadable 256 (call_from word numbers) }
+    ensures { result ≡ call_from word numbers }
 {
     match word {
         CallWord::New => Call::New {
