@@ -2,6 +2,7 @@
 //! the call that it makes of their numbers. The reader and the writer of call lines both go by it.
 
 ghost use Rattle.std.specs.Prelude.{◌≡◌, ◌<◌, ◌≤◌, length, None, Some, IfSome, MatchOption};
+ghost use Rattle.gc_layout.specs.Sizes.{register_count};
 ghost use Rattle.gc_script.specs.Calls.{IsReadable, call_from, call_word, kinds_of, parts_of, spelled_word};
 
 use crate::fault::Cause;
@@ -186,7 +187,7 @@ pub(crate) fn call_from(word: CallWord, numbers: [u64; MOST_ARGUMENTS]) -> Call
 
 /// The register of a number below 16.
 fn register(number: u64) -> Reg
-    requires { number < 16 }
+    requires { number < register_count }
     ensures { result ≡ number }
 {
     Reg::make(number as u8).unwrap()
