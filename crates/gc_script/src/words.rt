@@ -8,6 +8,7 @@ ghost use Rattle.gc_script.specs.Words.{numeral, number_below, number, small, co
 ghost use Rattle.gc_script.specs.declared.fault.Cause.TheVariants.{Mutator};
 
 use crate::fault::Cause;
+use gc_model::Reg;
 
 /// How many registers and how many places of the common object there are.
 const SIXTEEN: u64 = 16;
@@ -35,21 +36,23 @@ pub(crate) fn small(word: &[u8]) -> Result<u8, Cause>
 }
 
 /// A number at most 15, a place of the common object.
-pub(crate) fn common_place(word: &[u8]) -> Result<u64, Cause>
+pub(crate) fn common_place(word: &[u8]) -> Result<u8, Cause>
     ensures { result ≡ common_place word.now }
 {
-    number_below(SIXTEEN, Cause::Number, word)
+    let value = number_below(SIXTEEN, Cause::Number, word)?;
+    Ok(value as u8)
 }
 
-/// `r` and a number at most 15: the number of a register.
+/// `r` and a number at most 15: a register.
 #[tactic(auto, unfolding(crate::specs::Words::register))]
-pub(crate) fn register(word: &[u8]) -> Result<u64, Cause>
+pub(crate) fn register(word: &[u8]) -> Result<Reg, Cause>
     ensures { result ≡ register word.now }
 {
-    match word {
-        [b'r', digits @ ..] => number_below(SIXTEEN, Cause::Register, digits),
-        _ => Err(Cause::Register),
-    }
+    let [b'r', digits @ ..] = word else {
+        return Err(Cause::Register);
+    };
+    let value = number_below(SIXTEEN, Cause::Register, digits)?;
+    Reg::make(value as u8).ok_or(Cause::Register)
 }
 
 /// A number below that of the script's mutators.
