@@ -1,5 +1,5 @@
 -- The table of calls, both ways; and what a call line that is read says.
-use Rattle.std.proofs.Common.{◌≡◌, ℕ, ◌+◌, ◌<◌, List, [], ◌∷◌, length, take, Bool, true, false, Some, Result, Ok, Err, refl, sym, subst, ap, ap₂, ◌∙◌, arith, ◌==◌, if◌then◌else◌, decimal}
+use Rattle.std.proofs.Common.{◌≡◌, ℕ, ◌+◌, ◌<◌, List, [], ◌∷◌, length, Bool, true, false, Some, Result, Ok, Err, refl, sym, subst, ap, ap₂, ◌∙◌, arith, ◌==◌, if◌then◌else◌, decimal}
 use Rattle.std.proofs.lemmas.Bool.{eqb-true}
 use Rattle.std.specs.Str.{bytes_eq}
 use Rattle.gc_model.specs.Answer.{Suits}
@@ -13,7 +13,7 @@ use Rattle.gc_script.specs.declared.calls.Kind.{Kind}
 use Rattle.gc_script.specs.declared.fault.Cause.{Cause}
 use Rattle.gc_script.specs.Calls.{each_call_word, spelled_among, call_word, spelled_word, kinds_of, call_from, parts_of, AreOfKinds, AreReadable, IsReadable}
 use Rattle.gc_script.specs.Fault.{◌>>=◌}
-use Rattle.gc_script.specs.Grammar.{counted_word, call_line}
+use Rattle.gc_script.specs.Grammar.{counted_word, call_of, call_line}
 use Rattle.gc_script.specs.Laws.{IsReadLine}
 use Rattle.gc_script.specs.Script.{Preamble, IsFitLine, IsScriptLine}
 use Rattle.gc_script.specs.Words.{number_below, numbers_of}
@@ -52,26 +52,6 @@ parts-again Safepoint [] h = refl
 parts-again Block [] h = refl
 parts-again Unblock [] h = refl
 parts-again word numbers h = absurd (omega arith)
-
--- of four numbers the first are meant, as many as the word's kinds
-pub call_from-front : (word : CallWord) (numbers : List ℕ) → length numbers ≡ 4
-    → call_from word (take (length (kinds_of word)) numbers) ≡ call_from word numbers
-call_from-front New (a ∷ b ∷ c ∷ d ∷ []) h = refl
-call_from-front Get (a ∷ b ∷ c ∷ d ∷ []) h = refl
-call_from-front Put (a ∷ b ∷ c ∷ d ∷ []) h = refl
-call_from-front Ask (a ∷ b ∷ c ∷ d ∷ []) h = refl
-call_from-front Set (a ∷ b ∷ c ∷ d ∷ []) h = refl
-call_from-front Swap (a ∷ b ∷ c ∷ d ∷ []) h = refl
-call_from-front Same (a ∷ b ∷ c ∷ d ∷ []) h = refl
-call_from-front Copy (a ∷ b ∷ c ∷ d ∷ []) h = refl
-call_from-front Clear (a ∷ b ∷ c ∷ d ∷ []) h = refl
-call_from-front Share (a ∷ b ∷ c ∷ d ∷ []) h = refl
-call_from-front Take (a ∷ b ∷ c ∷ d ∷ []) h = refl
-call_from-front Await (a ∷ b ∷ c ∷ d ∷ []) h = refl
-call_from-front Safepoint (a ∷ b ∷ c ∷ d ∷ []) h = refl
-call_from-front Block (a ∷ b ∷ c ∷ d ∷ []) h = refl
-call_from-front Unblock (a ∷ b ∷ c ∷ d ∷ []) h = refl
-call_from-front word numbers h = absurd (omega arith)
 
 -- numbers of these kinds are as many
 pub kinds-length : (types : ℕ) (kinds : List Kind) (numbers : List ℕ) → AreOfKinds types kinds numbers
@@ -134,10 +114,12 @@ unfolding call_line
 call_line-read preamble (mutator ∷ word ∷ arguments) line h =
     let kind = both-pass (counted_word word arguments) _ line h in
     let t = both-pass (number_below preamble.mutators _ mutator) _ line kind.next_gives in
-    let numbers = both-pass (numbers_of preamble.names (kinds_of kind.value) arguments) _ line t.next_gives in
+    let call = both-pass (call_of preamble.names kind.value arguments) _ line t.next_gives in
+    let numbers = both-pass (numbers_of preamble.names (kinds_of kind.value) arguments) _ call.value call.first_gives in
     let counted = counted_word-spelled word arguments kind.value kind.first_gives in
     let read = words-read preamble.names (kinds_of kind.value) arguments numbers.value numbers.first_gives in
-    let line-is : line ≡ record { mutator = t.value; call = call_from kind.value numbers.value } = cc (numbers.next_gives) in
+    let call-is : call.value ≡ call_from kind.value numbers.value = cc (numbers.next_gives) in
+    let line-is : line ≡ record { mutator = t.value; call = call_from kind.value numbers.value } = cc (call.next_gives, call-is) in
     let mutator-is = number_below-written preamble.mutators _ mutator t.value t.first_gives in
     let again = parts-again kind.value numbers.value (kinds-length _ (kinds_of kind.value) numbers.value read.fit) in
     rw line-is (record {

@@ -179,26 +179,3 @@ words-read names (kind ∷ kinds) (word ∷ words) (number ∷ numbers) h =
       written = ap₂ (λ (w : List ℕ) (ws : List (List ℕ)). w ∷ ws) (word-written names kind word number first_gives) rest.written;
       fit = (word-fits names kind word number first_gives, rest.fit);
     }
-
--- where there are more types, the numbers are of their kinds too
-kind-more : (types more : ℕ) (kind : Kind) (n : ℕ) → types ≤ more → IsOfKind types kind n → IsOfKind more kind n
-kind-more types more kinds.Register n h is = is
-kind-more types more kinds.Small n h is = is
-kind-more types more kinds.CommonPlace n h is = is
-kind-more types more kinds.Number n h is = is
-kind-more types more kinds.TypeName n h (some, declared) = (some, omega arith)
-
-kinds-more : (types more : ℕ) (kinds : List Kind) (numbers : List ℕ) → types ≤ more → AreOfKinds types kinds numbers
-    → AreOfKinds more kinds numbers
-kinds-more types more [] [] h are = tt
-kinds-more types more [] (number ∷ numbers) h are = absurd are
-kinds-more types more (kind ∷ kinds) [] h are = absurd are
-kinds-more types more (kind ∷ kinds) (number ∷ numbers) h (first, others) =
-    (kind-more types more kind number h first, kinds-more types more kinds numbers h others)
-
--- of at most 255 names, the numbers are of their kinds where there are 256 types
-pub words-fit : (names : List (List ℕ)) (kinds : List Kind) (words : List (List ℕ)) (numbers : List ℕ)
-    → length names < 256 → numbers_of names kinds words ≡ Ok numbers → AreOfKinds 256 kinds numbers
-words-fit names kinds words numbers few h =
-    let read = words-read names kinds words numbers h in
-    kinds-more (length names + 1) 256 kinds numbers (omega arith) read.fit

@@ -40,32 +40,3 @@ pub no-line : (preamble : Preamble) (number : ℕ) (line : List ℕ) (lines : Li
     → whole ≡ Err (record { line = number; cause = cause })
 unfolding call_lines
 no-line preamble number line lines cause front whole is all = let first = rw is at all in sym first
-
--- the numbers of the words that are left begin with that of the next
-pub numbers-first : (names : List (List ℕ)) (kinds : List Kind) (words : List (List ℕ)) (i : ℕ) → i < length kinds
-    → length words ≡ length kinds
-    → numbers_of names (drop i kinds) (drop i words)
-    ≡ (number_of names (slice_index_or kinds i Register) (slice_index_or words i [])
-    >>= λ next. numbers_of names (drop (i + 1) kinds) (drop (i + 1) words) >>= λ others. Ok (next ∷ others))
-unfolding numbers_of
-numbers-first names kinds words i within count =
-    let inside : i < length words = omega arith in
-    rw (drop-cons kinds i Register, drop-cons words i [], add-one i) refl
-
--- the number of the next word goes behind those before it
-pub next-number : (names : List (List ℕ)) (kinds : List Kind) (words : List (List ℕ)) (i n : ℕ) (front : List ℕ)
-    (whole : Result (List ℕ) Cause) → i < length kinds → length words ≡ length kinds
-    → number_of names (slice_index_or kinds i Register) (slice_index_or words i []) ≡ Ok n
-    → with_front front (numbers_of names (drop i kinds) (drop i words)) ≡ whole
-    → with_front (front ++ n ∷ []) (numbers_of names (drop (i + 1) kinds) (drop (i + 1) words)) ≡ whole
-next-number names kinds words i n front whole within count is all =
-    let first = rw (numbers-first names kinds words i within count, is) at all in
-    sym (after-next front n (numbers_of names (drop (i + 1) kinds) (drop (i + 1) words))) ∙ first
-
--- and where it gives none, nothing does
-pub no-number : (names : List (List ℕ)) (kinds : List Kind) (words : List (List ℕ)) (i : ℕ) (cause : Cause) (front : List ℕ)
-    (whole : Result (List ℕ) Cause) → i < length kinds → length words ≡ length kinds
-    → number_of names (slice_index_or kinds i Register) (slice_index_or words i []) ≡ Err cause
-    → with_front front (numbers_of names (drop i kinds) (drop i words)) ≡ whole → whole ≡ Err cause
-no-number names kinds words i cause front whole within count is all =
-    let first = rw (numbers-first names kinds words i within count, is) at all in sym first

@@ -5,6 +5,7 @@ use Rattle.std.specs.List.{list_any}
 use Rattle.gc_layout.specs.declared.shape.Shape.{Shape}
 use Rattle.gc_layout.specs.Shape.{size_of}
 use Rattle.gc_layout.specs.Sizes.{largest_size}
+use Rattle.gc_model.specs.declared.call.Call.{Call}
 use Rattle.gc_model.specs.declared.call.Line.{Line}
 use Rattle.gc_script.specs.declared.calls.CallWord.{CallWord}
 use Rattle.gc_script.specs.declared.fault.Cause.{Cause}
@@ -60,13 +61,17 @@ counted_word word arguments = do
   kind ← call_word word
   if length arguments == length (kinds_of kind) then Ok kind else Err Word
 
+-- the call of a call word and the words behind it
+abbrev pub call_of : List (List ℕ) → CallWord → List (List ℕ) → Result Call Cause
+call_of names word words = numbers_of names (kinds_of word) words >>= λ numbers. Ok (call_from word numbers)
+
 -- a call line: a mutator, a call word and the words behind it
 unfoldable pub call_line : Preamble → List (List ℕ) → Result Line Cause
 call_line preamble (mutator ∷ word ∷ arguments) = do
   kind ← counted_word word arguments
   t ← number_below preamble.mutators Mutator mutator
-  numbers ← numbers_of preamble.names (kinds_of kind) arguments
-  Ok (record { mutator = t; call = call_from kind numbers })
+  call ← call_of preamble.names kind arguments
+  Ok (record { mutator = t; call = call })
 call_line preamble words = Err Word
 
 -- the call lines, of which the first has this number

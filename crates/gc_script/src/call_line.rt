@@ -1,17 +1,18 @@
-//! Reading a call line: a mutator, a call word and the words behind it, which are read by the word's kinds, from
-//! left to right.
+//! Reading a call line: a mutator, a call word and the words behind it. What a call word reads is what the table of
+//! calls says of it; each has a function of its own, since a loop over the kinds of its words takes longer.
 
-ghost use Rattle.std.specs.Prelude.{◌≡◌, ◌<◌, ◌≤◌, Ok, Err, length, map, take, IfOk, MatchResult};
+ghost use Rattle.std.specs.Prelude.{◌≡◌, ℕ, ◌<◌, List, length, map, MatchResult};
 ghost use Rattle.gc_script.specs.Calls.{kinds_of};
-ghost use Rattle.gc_script.specs.Grammar.{call_line, counted_word};
-ghost use Rattle.gc_script.specs.Words.{number_of, numbers_of};
+ghost use Rattle.gc_script.specs.declared.calls.CallWord.TheVariants.{New, Get, Put, Ask, Set, Swap, Same, Copy, Clear, Share, Take, Await};
+ghost use Rattle.gc_script.specs.Grammar.{call_line, counted_word, call_of};
 
-use crate::calls::{CallWord, Kind, MOST_ARGUMENTS, call_from, call_word, kinds_of};
+use crate::calls::{CallWord, call_word, kinds_of};
 use crate::fault::Cause;
 use crate::names::Names;
 use crate::preamble::Preamble;
 use crate::words::{common_place, mutator_below, number, register, small};
-use gc_model::Line;
+use gc_layout::TypeNo;
+use gc_model::{Call, Line};
 
 /// A call line: a mutator, a call word and what stands behind it.
 #[tactic(auto, unfolding(crate::specs::Grammar::call_line))]
@@ -23,11 +24,8 @@ pub(crate) fn call_line(preamble: &Preamble, words: &[&[u8]]) -> Result<Line, Ca
     };
     let word = counted_word(word, arguments)?;
     let mutator = mutator_below(preamble.mutators(), mutator)?;
-    let numbers = numbers_of(preamble.names(), kinds_of(word), arguments)?;
-    Ok(Line {
-        mutator,
-        call: call_from(word, numbers),
-    })
+    let call = call_of(preamble.names(), word, arguments)?;
+    Ok(Line { mutator, call })
 }
 
 /// Which call word this is, where so many words stand behind it as it takes.
@@ -44,40 +42,203 @@ fn counted_word(word: &[u8], arguments: &[&[u8]]) -> Result<CallWord, Cause>
     }
 }
 
-/// The numbers of as many words of these kinds, from left to right; no number stands behind them.
-fn numbers_of(
-    names: &Names,
-    kinds: &[Kind],
-    words: &[&[u8]],
-) -> Result<[u64; MOST_ARGUMENTS], Cause>
+/// The call of a call word and the words behind it, which are as many as it takes.
+#[tactic(auto, unfolding(crate::specs::Words::numbers_of))]
+fn call_of(names: &Names, word: CallWord, words: &[&[u8]]) -> Result<Call, Cause>
     requires types { length names.now < 256 }
-    requires few { length kinds.now ≤ 4 }
-    requires count { length words.now ≡ length kinds.now }
-    ensures numbers { MatchResult result
-        (λ numbers. numbers_of names.now kinds.now (map (λ word. word.now) words.now) ≡ Ok (take (length kinds.now) numbers))
-        (λ cause. numbers_of names.now kinds.now (map (λ word. word.now) words.now) ≡ Err cause) }
-    ensures four { IfOk result (λ numbers. length numbers ≡ 4) }
+    requires count { length words.now ≡ length (kinds_of word) }
+    ensures { result ≡ call_of names.now word (map (λ word. word.now) words.now) }
 {
-    let mut numbers = [0; MOST_ARGUMENTS];
-    for (index, kind) in kinds.iter().enumerate() {
-        match number_of(names, *kind, words[index]) {
-            Ok(number) => numbers[index] = number,
-            Err(cause) => return Err(cause),
-        }
+    match word {
+        CallWord::New => new_call(names, words),
+        CallWord::Get => get_call(words),
+        CallWord::Put => put_call(words),
+        CallWord::Ask => ask_call(words),
+        CallWord::Set => set_call(words),
+        CallWord::Swap => swap_call(words),
+        CallWord::Same => same_call(words),
+        CallWord::Copy => copy_call(words),
+        CallWord::Clear => clear_call(words),
+        CallWord::Share => share_call(words),
+        CallWord::Take => take_call(words),
+        CallWord::Await => await_call(words),
+        CallWord::Safepoint => Ok(Call::Safepoint),
+        CallWord::Block => Ok(Call::Block),
+        CallWord::Unblock => Ok(Call::Unblock),
     }
-    Ok(numbers)
 }
 
-/// The number of a word of a kind.
-fn number_of(names: &Names, kind: Kind, word: &[u8]) -> Result<u64, Cause>
-    requires { length names.now < 256 }
-    ensures { result ≡ number_of names.now kind word.now }
+// What stands behind each call word, from left to right.
+
+#[tactic(auto, unfolding(crate::specs::Words::numbers_of))]
+fn new_call(names: &Names, words: &[&[u8]]) -> Result<Call, Cause>
+    requires types { length names.now < 256 }
+    requires count { length words.now ≡ 2 }
+    ensures { result ≡ call_of names.now New (map (λ word. word.now) words.now) }
 {
-    match kind {
-        Kind::Register => register(word),
-        Kind::Small => small(word).map(u64::from),
-        Kind::CommonPlace => common_place(word),
-        Kind::Number => number(word),
-        Kind::TypeName => names.type_named(word).map(u64::from),
-    }
+    let [into, name] = words else {
+        unreachable!();
+    };
+    Ok(Call::New {
+        into: register(into)?,
+        ty: TypeNo(names.type_named(name)?),
+    })
+}
+
+#[tactic(auto, unfolding(crate::specs::Words::numbers_of))]
+fn get_call(words: &[&[u8]]) -> Result<Call, Cause>
+    requires { length words.now ≡ 3 }
+    ensures { (names : List (List ℕ)) → result ≡ call_of names Get (map (λ word. word.now) words.now) }
+{
+    let [into, base, place] = words else {
+        unreachable!();
+    };
+    Ok(Call::Get {
+        into: register(into)?,
+        base: register(base)?,
+        place: small(place)?,
+    })
+}
+
+#[tactic(auto, unfolding(crate::specs::Words::numbers_of))]
+fn put_call(words: &[&[u8]]) -> Result<Call, Cause>
+    requires { length words.now ≡ 3 }
+    ensures { (names : List (List ℕ)) → result ≡ call_of names Put (map (λ word. word.now) words.now) }
+{
+    let [base, place, value] = words else {
+        unreachable!();
+    };
+    Ok(Call::Put {
+        base: register(base)?,
+        place: small(place)?,
+        value: register(value)?,
+    })
+}
+
+#[tactic(auto, unfolding(crate::specs::Words::numbers_of))]
+fn ask_call(words: &[&[u8]]) -> Result<Call, Cause>
+    requires { length words.now ≡ 2 }
+    ensures { (names : List (List ℕ)) → result ≡ call_of names Ask (map (λ word. word.now) words.now) }
+{
+    let [base, place] = words else {
+        unreachable!();
+    };
+    Ok(Call::Ask {
+        base: register(base)?,
+        place: small(place)?,
+    })
+}
+
+#[tactic(auto, unfolding(crate::specs::Words::numbers_of))]
+fn set_call(words: &[&[u8]]) -> Result<Call, Cause>
+    requires { length words.now ≡ 3 }
+    ensures { (names : List (List ℕ)) → result ≡ call_of names Set (map (λ word. word.now) words.now) }
+{
+    let [base, place, value] = words else {
+        unreachable!();
+    };
+    Ok(Call::Set {
+        base: register(base)?,
+        place: small(place)?,
+        number: number(value)?,
+    })
+}
+
+#[tactic(auto, unfolding(crate::specs::Words::numbers_of))]
+fn swap_call(words: &[&[u8]]) -> Result<Call, Cause>
+    requires { length words.now ≡ 4 }
+    ensures { (names : List (List ℕ)) → result ≡ call_of names Swap (map (λ word. word.now) words.now) }
+{
+    let [base, place, expected, replacement] = words else {
+        unreachable!();
+    };
+    Ok(Call::SwapIf {
+        base: register(base)?,
+        place: small(place)?,
+        expected: number(expected)?,
+        replacement: number(replacement)?,
+    })
+}
+
+#[tactic(auto, unfolding(crate::specs::Words::numbers_of))]
+fn same_call(words: &[&[u8]]) -> Result<Call, Cause>
+    requires { length words.now ≡ 2 }
+    ensures { (names : List (List ℕ)) → result ≡ call_of names Same (map (λ word. word.now) words.now) }
+{
+    let [left, right] = words else {
+        unreachable!();
+    };
+    Ok(Call::Same {
+        left: register(left)?,
+        right: register(right)?,
+    })
+}
+
+#[tactic(auto, unfolding(crate::specs::Words::numbers_of))]
+fn copy_call(words: &[&[u8]]) -> Result<Call, Cause>
+    requires { length words.now ≡ 2 }
+    ensures { (names : List (List ℕ)) → result ≡ call_of names Copy (map (λ word. word.now) words.now) }
+{
+    let [into, source] = words else {
+        unreachable!();
+    };
+    Ok(Call::CopyReg {
+        into: register(into)?,
+        source: register(source)?,
+    })
+}
+
+#[tactic(auto, unfolding(crate::specs::Words::numbers_of))]
+fn clear_call(words: &[&[u8]]) -> Result<Call, Cause>
+    requires { length words.now ≡ 1 }
+    ensures { (names : List (List ℕ)) → result ≡ call_of names Clear (map (λ word. word.now) words.now) }
+{
+    let [reg] = words else {
+        unreachable!();
+    };
+    Ok(Call::ClearReg {
+        reg: register(reg)?,
+    })
+}
+
+#[tactic(auto, unfolding(crate::specs::Words::numbers_of))]
+fn share_call(words: &[&[u8]]) -> Result<Call, Cause>
+    requires { length words.now ≡ 2 }
+    ensures { (names : List (List ℕ)) → result ≡ call_of names Share (map (λ word. word.now) words.now) }
+{
+    let [place, value] = words else {
+        unreachable!();
+    };
+    Ok(Call::Share {
+        place: common_place(place)?,
+        value: register(value)?,
+    })
+}
+
+#[tactic(auto, unfolding(crate::specs::Words::numbers_of))]
+fn take_call(words: &[&[u8]]) -> Result<Call, Cause>
+    requires { length words.now ≡ 2 }
+    ensures { (names : List (List ℕ)) → result ≡ call_of names Take (map (λ word. word.now) words.now) }
+{
+    let [into, place] = words else {
+        unreachable!();
+    };
+    Ok(Call::Take {
+        into: register(into)?,
+        place: common_place(place)?,
+    })
+}
+
+#[tactic(auto, unfolding(crate::specs::Words::numbers_of))]
+fn await_call(words: &[&[u8]]) -> Result<Call, Cause>
+    requires { length words.now ≡ 2 }
+    ensures { (names : List (List ℕ)) → result ≡ call_of names Await (map (λ word. word.now) words.now) }
+{
+    let [into, place] = words else {
+        unreachable!();
+    };
+    Ok(Call::Await {
+        into: register(into)?,
+        place: common_place(place)?,
+    })
 }

@@ -1,17 +1,15 @@
-//! The table of calls: how each call word is spelled, the kinds of the words behind it, from left to right, and
-//! the call that it makes of their numbers. The reader and the writer of call lines both go by it.
+//! The table of calls: how each call word is spelled, the kinds of the words behind it, from left to right, and the
+//! call word and the numbers of each call. The writer goes by it, and the reader knows from it how many words to read.
 
-ghost use Rattle.std.specs.Prelude.{◌≡◌, ◌<◌, ◌≤◌, length, None, Some, IfSome, MatchOption};
-ghost use Rattle.gc_layout.specs.Sizes.{register_count};
-ghost use Rattle.gc_script.specs.Calls.{IsReadable, call_from, call_word, kinds_of, parts_of, spelled_word};
+ghost use Rattle.std.specs.Prelude.{◌≡◌, ◌≤◌, length, None, Some, IfSome, MatchOption};
+ghost use Rattle.gc_script.specs.Calls.{call_word, kinds_of, parts_of, spelled_word};
 
 use crate::fault::Cause;
 use arrayvec::ArrayVec;
-use gc_layout::TypeNo;
 use gc_model::{Call, Reg};
 
 /// The most words behind a call word.
-pub(crate) const MOST_ARGUMENTS: usize = 4;
+const MOST_ARGUMENTS: usize = 4;
 
 /// The numbers behind a call word, from left to right.
 pub(crate) type Numbers = ArrayVec<u64, MOST_ARGUMENTS>;
@@ -118,79 +116,6 @@ pub(crate) fn call_word(word: &[u8]) -> Result<CallWord, Cause>
         b"unblock" => Ok(CallWord::Unblock),
         _ => Err(Cause::Word),
     }
-}
-
-/// The call of a call word and the numbers behind it, each one that a word of its kind can give. Of the four numbers
-/// the first are meant, as many as the word's kinds.
-pub(crate) fn call_from(word: CallWord, numbers: [u64; MOST_ARGUMENTS]) -> Call
-    requires { IsReadable 256 (call_from word numbers) }
-    ensures { result ≡ call_from word numbers }
-{
-    match word {
-        CallWord::New => Call::New {
-            into: register(numbers[0]),
-            ty: TypeNo(numbers[1] as u8),
-        },
-        CallWord::Get => Call::Get {
-            into: register(numbers[0]),
-            base: register(numbers[1]),
-            place: numbers[2] as u8,
-        },
-        CallWord::Put => Call::Put {
-            base: register(numbers[0]),
-            place: numbers[1] as u8,
-            value: register(numbers[2]),
-        },
-        CallWord::Ask => Call::Ask {
-            base: register(numbers[0]),
-            place: numbers[1] as u8,
-        },
-        CallWord::Set => Call::Set {
-            base: register(numbers[0]),
-            place: numbers[1] as u8,
-            number: numbers[2],
-        },
-        CallWord::Swap => Call::SwapIf {
-            base: register(numbers[0]),
-            place: numbers[1] as u8,
-            expected: numbers[2],
-            replacement: numbers[3],
-        },
-        CallWord::Same => Call::Same {
-            left: register(numbers[0]),
-            right: register(numbers[1]),
-        },
-        CallWord::Copy => Call::CopyReg {
-            into: register(numbers[0]),
-            source: register(numbers[1]),
-        },
-        CallWord::Clear => Call::ClearReg {
-            reg: register(numbers[0]),
-        },
-        CallWord::Share => Call::Share {
-            place: numbers[0] as u8,
-            value: register(numbers[1]),
-        },
-        CallWord::Take => Call::Take {
-            into: register(numbers[0]),
-            place: numbers[1] as u8,
-        },
-        CallWord::Await => Call::Await {
-            into: register(numbers[0]),
-            place: numbers[1] as u8,
-        },
-        CallWord::Safepoint => Call::Safepoint,
-        CallWord::Block => Call::Block,
-        CallWord::Unblock => Call::Unblock,
-    }
-}
-
-/// The register of a number below 16.
-fn register(number: u64) -> Reg
-    requires { number < register_count }
-    ensures { result ≡ number }
-{
-    Reg::make(number as u8).unwrap()
 }
 
 /// The call word of a call and the numbers behind it. None exactly at Collect and End, which no line of a script

@@ -6,9 +6,9 @@
 //! in a fixed order, and the first test that fails in the first bad line is the script's fault. `collect`
 //! is no call word yet. The reader goes over the bytes line by line, and looks the names of types up by
 //! their hashes; its contract is the grammar in specs/. The writer gives a script in its one spelling: it
-//! builds each line in a fixed room and hands it on as one piece. Both go by one table of the calls, which
-//! says how a call word is spelled, the kinds of the words behind it, and the call that it makes of them. A
-//! Script is one that some text is read as: what it is written as is read as it.
+//! builds each line in a fixed room and hands it on as one piece. What both do with a call line is said by
+//! one table of the calls: how a call word is spelled, the kinds of the words behind it, and the call that
+//! it makes of them. A Script is one that some text is read as: what it is written as is read as it.
 #![tactic(auto)]
 
 mod call_line;

@@ -9,6 +9,7 @@ ghost use Rattle.gc_script.specs.declared.fault.Cause.TheVariants.{Mutator};
 
 use crate::fault::Cause;
 use gc_layout::{COMMON_SLOTS, REGISTERS};
+use gc_model::Reg;
 
 /// The most bytes of a type name.
 const LONGEST_NAME: usize = 16;
@@ -33,21 +34,23 @@ pub(crate) fn small(word: &[u8]) -> Result<u8, Cause>
 }
 
 /// A number at most 15, a place of the common object.
-pub(crate) fn common_place(word: &[u8]) -> Result<u64, Cause>
+pub(crate) fn common_place(word: &[u8]) -> Result<u8, Cause>
     ensures { result ≡ common_place word.now }
 {
-    number_below(u64::from(COMMON_SLOTS), Cause::Number, word)
+    let value = number_below(u64::from(COMMON_SLOTS), Cause::Number, word)?;
+    Ok(value as u8)
 }
 
-/// `r` and a number at most 15: the number of a register.
+/// `r` and a number at most 15: a register.
 #[tactic(auto, unfolding(crate::specs::Words::register))]
-pub(crate) fn register(word: &[u8]) -> Result<u64, Cause>
+pub(crate) fn register(word: &[u8]) -> Result<Reg, Cause>
     ensures { result ≡ register word.now }
 {
-    match word {
-        [b'r', digits @ ..] => number_below(u64::from(REGISTERS), Cause::Register, digits),
-        _ => Err(Cause::Register),
-    }
+    let [b'r', digits @ ..] = word else {
+        return Err(Cause::Register);
+    };
+    let value = number_below(u64::from(REGISTERS), Cause::Register, digits)?;
+    Reg::make(value as u8).ok_or(Cause::Register)
 }
 
 /// A number below that of the script's mutators.
