@@ -6,12 +6,14 @@ use Rattle.gc_layout.specs.Places.{Layout, IsWithinLimits, region_words, word_co
 use Rattle.gc_layout.specs.Reciprocal.{reciprocal_of}
 
 -- the error of a product with the reciprocal is below the scale
-error-below : (n r q k m excess scale : ℕ) → n ≡ r * q + k → k + 1 ≤ r → r * m ≡ scale + excess → excess ≤ r → n + r < m → q * excess + k * m < scale
+error-below : (n r q k m excess scale : ℕ) → n ≡ r * q + k → k + 1 ≤ r → r * m ≡ scale + excess → excess ≤ r
+    → n + r < m → q * excess + k * m < scale
 error-below n r q k m excess scale n_is below product few large =
     omega (arith, n_is, product, mul-le-mul_left q few, mul-le-mul_right m below)
 
 -- the product is the quotient, scaled, and that error
-product-is : (n r q k m excess scale : ℕ) → n ≡ r * q + k → r * m ≡ scale + excess → n * m ≡ q * scale + (q * excess + k * m)
+product-is : (n r q k m excess scale : ℕ) → n ≡ r * q + k → r * m ≡ scale + excess
+    → n * m ≡ q * scale + (q * excess + k * m)
 product-is n r q k m excess scale n_is product =
     omega (arith, ap (λ x. x * m) n_is, ap (λ x. q * x) product)
 
@@ -28,7 +30,8 @@ quotient-by-reciprocal scale n r some large =
     let excess = r - scale % r in
     let n_is : n ≡ r * q + k = sym (div-add-mod n r) in
     let product : r * m ≡ scale + excess = rounded-up scale r some in
-    let below : q * excess + k * m < scale = error-below n r q k m excess scale n_is (omega (arith, mod_below n r some)) product (omega arith) large in
+    let below : q * excess + k * m < scale =
+    error-below n r q k m excess scale n_is (omega (arith, mod_below n r some)) product (omega arith) large in
     ap (λ x. x / scale) (product-is n r q k m excess scale n_is product) ∙ div-mul-add q scale (q * excess + k * m) below
 
 -- a number that is at most another one has at least its reciprocal
@@ -50,13 +53,16 @@ words-most layout limits =
     omega (arith, mul-le-mul limits.few_mutators (region-most layout limits))
 
 -- so it gives the regions before each address of the heap
-pub regions-by-reciprocal : (layout : Layout) (before : ℕ) → IsWithinLimits layout → before < word_count layout → before * reciprocal_of layout / 4398046511104 ≡ before / region_words layout
+pub regions-by-reciprocal : (layout : Layout) (before : ℕ) → IsWithinLimits layout → before < word_count layout
+    → before * reciprocal_of layout / 4398046511104 ≡ before / region_words layout
 regions-by-reciprocal layout before limits inside =
     let region = region_words layout in
     let most : region ≤ 262160 = region-most layout limits in
-    let above : 16776192 ≤ 4398046511104 / region = reciprocal-above 4398046511104 16776192 region 262160 (region-some layout) most (lit≤ tt) in
+    let above : 16776192 ≤ 4398046511104 / region =
+    reciprocal-above 4398046511104 16776192 region 262160 (region-some layout) most (lit≤ tt) in
     quotient-by-reciprocal 4398046511104 before region (region-some layout) (omega (arith, words-most layout limits))
 
 -- the owner of each address of the heap is one of its mutators
-pub regions-below : (layout : Layout) (before : ℕ) → before < word_count layout → before / region_words layout < layout.mutators
+pub regions-below : (layout : Layout) (before : ℕ) → before < word_count layout
+    → before / region_words layout < layout.mutators
 regions-below layout before inside = (div-lt_iff_lt-mul (region-some layout)).1 inside

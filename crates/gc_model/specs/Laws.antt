@@ -8,7 +8,7 @@ use Rattle.gc_model.specs.declared.entry.Entry.{Entry}
 use Rattle.gc_model.specs.declared.entry.Entry.TheVariants.{Made, Run}
 use Rattle.gc_model.specs.Answer.{IsFit, shape_at}
 use Rattle.gc_model.specs.Graph.{Object, Graph, common_object, object_at}
-use Rattle.gc_model.specs.World.{World}
+use Rattle.gc_model.specs.World.{Mutator, World}
 use Rattle.gc_model.specs.History.{Configuration, History, world_after, world_after_entry}
 
 -- what stays of an object: its type, its maker, and how many slots and numbers it has
@@ -43,10 +43,15 @@ IsThere count name = IfSome name (λ number. number < count)
 abbrev pub AreThere : ℕ → List (Option ℕ) → Type 0
 AreThere count names = All (IsThere count) names
 
+-- a mutator has 16 registers, which name objects that are there
+abbrev pub HasSoundRegisters : World → Mutator → Type 0
+HasSoundRegisters world mutator =
+    (length mutator.registers ≡ register_count) × AreThere (length world.graph) mutator.registers
+
 -- the common object is there, each mutator has 16 registers, and registers and slots name objects that are there
 pub record IsSound (world : World) : Type 0 where
   pub common : 0 < length world.graph
-  pub registers : All (λ mutator. (length mutator.registers ≡ register_count) × AreThere (length world.graph) mutator.registers) world.mutators
+  pub registers : All (HasSoundRegisters world) world.mutators
   pub slots : All (λ object. AreThere (length world.graph) object.slots) world.graph
 
 -- after every history each name is an object's
