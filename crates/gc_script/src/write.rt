@@ -23,6 +23,7 @@ pub fn write_script<K: Sink>(s: &Script, out: &mut K) -> Put
     ensures failed { result ≡ Put.Failed → HasRisen (K.faults out.old) (K.faults out.new) }
     ensures part { result ≡ Put.Failed → AppendsPrefix (K.written out.old) (K.written out.new) (written s.now) }
     ensures read_back { IsReadBack s.now }
+    ensures quiet { result ≡ Put.All → K.faults out.new ≡ K.faults out.old }
     ensures never_falls { K.faults out.old ≤ K.faults out.new }
 {
     match write_preamble(s.preamble(), out) {
@@ -38,6 +39,7 @@ fn write_preamble<K: Sink>(preamble: &Preamble, out: &mut K) -> Put
     ensures failed { result ≡ Put.Failed → HasRisen (K.faults out.old) (K.faults out.new) }
     ensures part { result ≡ Put.Failed
         → AppendsPrefix (K.written out.old) (K.written out.new) (preamble_text preamble.now) }
+    ensures quiet { result ≡ Put.All → K.faults out.new ≡ K.faults out.old }
     ensures never_falls { K.faults out.old ≤ K.faults out.new }
 {
     match write_head(preamble.mutators(), out) {
@@ -53,6 +55,7 @@ fn write_head<K: Sink>(mutators: u8, out: &mut K) -> Put
     ensures failed { result ≡ Put.Failed → HasRisen (K.faults out.old) (K.faults out.new) }
     ensures part { result ≡ Put.Failed
         → AppendsPrefix (K.written out.old) (K.written out.new) (head_text mutators) }
+    ensures quiet { result ≡ Put.All → K.faults out.new ≡ K.faults out.old }
     ensures never_falls { K.faults out.old ≤ K.faults out.new }
 {
     match out.put(b"moar-gc 1\n") {
@@ -68,6 +71,7 @@ fn write_types<K: Sink>(preamble: &Preamble, out: &mut K) -> Put
     ensures failed { result ≡ Put.Failed → HasRisen (K.faults out.old) (K.faults out.new) }
     ensures part { result ≡ Put.Failed
         → AppendsPrefix (K.written out.old) (K.written out.new) (types_text preamble.now.names (declared_shapes preamble.now.types)) }
+    ensures quiet { result ≡ Put.All → K.faults out.new ≡ K.faults out.old }
     ensures never_falls { K.faults out.old ≤ K.faults out.new }
 {
     for index in 0..preamble.names().len() {
@@ -97,6 +101,7 @@ fn write_calls<K: Sink>(s: &Script, out: &mut K) -> Put
     ensures failed { result ≡ Put.Failed → HasRisen (K.faults out.old) (K.faults out.new) }
     ensures part { result ≡ Put.Failed
         → AppendsPrefix (K.written out.old) (K.written out.new) (flat_map (call_text s.now.preamble.names) s.now.lines) }
+    ensures quiet { result ≡ Put.All → K.faults out.new ≡ K.faults out.old }
     ensures never_falls { K.faults out.old ≤ K.faults out.new }
 {
     for index in 0..s.count() {

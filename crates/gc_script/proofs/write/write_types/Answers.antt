@@ -1,4 +1,4 @@
-use Rattle.std.proofs.Common.{ap, length, arith, append_assoc}
+use Rattle.std.proofs.Common.{◌∙◌, ap, length, arith, append_assoc}
 use Rattle.gc_io.proofs.StreamLemmas.{Appends-append, AppendsPrefix-behind}
 use Rattle.gc_script.proofs.WriteLemmas.{types_text-next}
 use Rattle.gc_script.proofs.write.write_types.Goals as goal
@@ -23,5 +23,5 @@ loop-index-preserved g c =
       text = _;
       got = Appends-append _ _ _ so_far.text _ so_far.got (c.put.ensures.all c.in-All.is);
       left = rw append_assoc next;
-      faults = omega (arith, so_far.faults, c.put.ensures.never_falls);
+      quiet = c.put.ensures.quiet (λ failed. cc) ∙ so_far.quiet;
     }

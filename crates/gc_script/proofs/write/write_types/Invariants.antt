@@ -1,4 +1,4 @@
-use Rattle.std.proofs.Common.{◌≡◌, ℕ, List, ◌+◌, ◌≤◌, ◌++◌, drop}
+use Rattle.std.proofs.Common.{◌≡◌, ℕ, List, ◌+◌, ◌++◌, drop}
 use Rattle.gc_io.specs.Streams.{Appends}
 use Rattle.gc_script.specs.Written.{types_text, declared_shapes}
 use Rattle.gc_script.proofs.write.write_types.Given as goal
@@ -10,5 +10,5 @@ invariant-loop-index g l = record {
   got : Appends (g.K.Sink.written l.fn.out) (g.K.Sink.written l.out) text;
   left : text ++ types_text (drop l.index l.preamble.names) (drop (l.index + 1) l.preamble.types)
       ≡ types_text l.preamble.names (declared_shapes l.preamble.types);
-  faults : g.K.Sink.faults l.fn.out ≤ g.K.Sink.faults l.out;
+  quiet : g.K.Sink.faults l.out ≡ g.K.Sink.faults l.fn.out;
 }
