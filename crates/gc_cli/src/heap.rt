@@ -151,10 +151,10 @@ impl<'a> Heap<'a> {
         }
         let address = self.places.half_start(t, 0) as usize + used;
         self.words[address] = header(ty, false);
-        let place = usize::from(into.index());
+        let index = usize::from(into.index());
         let bay = &mut self.bays[usize::from(t)];
         bay.used = used + size;
-        bay.registers[place] = address as u64;
+        bay.registers[index] = address as u64;
         Reply::Done
     }
 

@@ -47,25 +47,25 @@ fn play_lines(heap: &mut Heap, script: &Script, replies: &mut Vec<Reply>)
         → replies.new.items ≡ replies_of heap.old.types.now heap.old.places.nursery world script.now.lines }
     ensures answered { vec_len replies.new ≡ length script.now.lines }
 {
-    for place in 0..script.count() {
-        replies.push_reserved(play_line(heap, script, place));
+    for index in 0..script.count() {
+        replies.push_reserved(play_line(heap, script, index));
     }
     end_all(heap, script.mutators());
 }
 
 /// Plays a line of the script, counted from 0.
-fn play_line(heap: &mut Heap, script: &Script, place: usize) -> Reply
+fn play_line(heap: &mut Heap, script: &Script, index: usize) -> Reply
     requires types { heap.old.types.now ≡ script.now.preamble.types }
     requires mutators { heap.old.places.mutators ≡ script.now.preamble.mutators }
     requires shown { (world : World) × ShowsWorld heap.old world }
-    requires there { place < length script.now.lines }
+    requires there { index < length script.now.lines }
     ensures stays { Stays heap.old heap.new }
     ensures answered { (world : World) (line : CallLine) → ShowsWorld heap.old world
-        → slice_get script.now.lines place ≡ Some line
+        → slice_get script.now.lines index ≡ Some line
         → IsAnswered heap.new result (answer_to heap.old.types.now heap.old.places.nursery world line) }
 {
     // Taken apart, since the prover has to be shown the type of the call here.
-    let Line { mutator, call } = script.line(place).unwrap();
+    let Line { mutator, call } = script.line(index).unwrap();
     heap.call(&Line { mutator, call })
 }
 

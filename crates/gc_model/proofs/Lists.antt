@@ -1,7 +1,8 @@
 -- General facts on lists: what holds of each element and of the default, and counts of what passes a test.
-use Rattle.std.proofs.Common.{◌≡◌, ℕ, ◌<◌, ◌≤◌, Bool, true, false, ◌&&◌, not, cond, List, [], ◌∷◌, All, length, inl, inr, refl, ap, sym, subst, arith, slice_index_or, count_by}
+use Rattle.std.proofs.Common.{◌≡◌, ℕ, ◌<◌, ◌≤◌, Bool, true, false, ◌&&◌, not, cond, List, [], ◌∷◌, All, length, map, inl, inr, refl, ap, sym, subst, arith, slice_index_or, count_by}
 use Rattle.std.proofs.Math.ListN.{get_or-eq_default}
 use Rattle.std.proofs.lemmas.Bool.{cases_lt, or_cases, false≢true}
+use Rattle.std.proofs.lemmas.List.{get_or-map, length-map}
 use Rattle.std.proofs.lemmas.List.Sums.{sum_by-cons, sum_by-le-sum_by}
 use Rattle.std.specs.List.{list_any}
 
@@ -12,6 +13,11 @@ or_default P xs index d all base =
       | inl below ↦ all index d below
       | inr above ↦ subst P (sym (get_or-eq_default xs d above)) base
     ]
+
+-- what holds of each image holds so of each element
+pub All-unmap : {X Y : Type 0} (P : Y → Type 0) (f : X → Y) (xs : List X) → All P (map f xs) → All (λ x. P (f x)) xs
+All-unmap P f xs all index d below =
+    subst P (get_or-map f xs index d (f d) below) (all index (f d) (omega (arith, below, length-map xs f)))
 
 -- what an element counts by the answer of a test
 abbrev pub weight : Bool → ℕ

@@ -1,6 +1,6 @@
 -- What changes in a well-typed world leaves it well typed, and what a well-typed world has.
-use Rattle.std.proofs.Common.{◌≡◌, ◌∙◌, ℕ, ◌<◌, ◌≤◌, Option, None, Some, List, [], ◌∷◌, ◌++◌, All, length, map, refl, ap, sym, subst, arith, slice_index_or}
-use Rattle.std.proofs.lemmas.List.{get_or-map, get_or_append_left, length-map, length-replicate, map-append}
+use Rattle.std.proofs.Common.{◌≡◌, ◌∙◌, ℕ, ◌<◌, ◌≤◌, Option, None, Some, List, [], ◌∷◌, ◌++◌, All, length, refl, ap, sym, subst, arith, slice_index_or}
+use Rattle.std.proofs.lemmas.List.{get_or_append_left, length-map, length-replicate, map-append}
 use Rattle.std.proofs.lemmas.List.Elements.{All-map, All-push, All-replicate}
 use Rattle.std.proofs.lemmas.Option.{get_or_from_slice_get, slice_get_within}
 use Rattle.gc_layout.specs.declared.shape.Shape.{Shape}
@@ -12,6 +12,7 @@ use Rattle.gc_model.specs.Laws.{IsSound, IsTyped, IsWellTyped, Kind, kind_of, ki
 use Rattle.gc_model.specs.Plain.{IsWellFormed, Plain, with_world}
 use Rattle.gc_model.specs.Step.{HasSlot, HasNumber}
 use Rattle.gc_model.specs.World.{World, first_world, named_by, with_object}
+use Rattle.gc_model.proofs.Lists.{All-unmap}
 use Rattle.gc_model.proofs.Objects.{new_kind}
 use Rattle.gc_model.proofs.Sound.{named_by-number, with_object-sound}
 
@@ -31,11 +32,6 @@ pub has-common_slot : (types : List Shape) (world : World) (place : ℕ) → IsS
 has-common_slot types world place sound typed below =
     (sound.common, omega (arith, below, ap (λ (kind : Kind). kind.slots) typed.common))
 
--- what each kind is, each object is
-all-unmap : {X Y : Type 0} (P : Y → Type 0) (f : X → Y) (xs : List X) → All P (map f xs) → All (λ x. P (f x)) xs
-all-unmap P f xs all index d below =
-    subst P (get_or-map f xs index d (f d) below) (all index (f d) (omega (arith, below, length-map xs f)))
-
 -- the kind of object 0 is the first of the kinds
 first-kind : (graph : Graph) → slice_index_or (kinds_of graph) 0 (kind_of common_object) ≡ kind_of (object_at graph 0)
 first-kind [] = refl
@@ -45,7 +41,7 @@ first-kind (object ∷ graph) = refl
 pub same-typed : (types : List Shape) (old new : World) → kinds_of new.graph ≡ kinds_of old.graph → IsWellTyped types old
     → IsWellTyped types new
 same-typed types old new same typed = record {
-  objects = all-unmap (IsTyped types) kind_of new.graph
+  objects = All-unmap (IsTyped types) kind_of new.graph
       (subst (All (IsTyped types)) (sym same) (All-map (IsTyped types) kind_of old.graph typed.objects));
   common = sym (first-kind new.graph) ∙ ap (λ (kinds : List Kind). slice_index_or kinds 0 (kind_of common_object)) same
       ∙ first-kind old.graph ∙ typed.common;
@@ -58,7 +54,7 @@ more-typed types old new kind some more own typed =
     let kinds = kinds_of old.graph in
     let count : 0 < length kinds = omega (arith, some, length-map old.graph kind_of) in
     record {
-      objects = all-unmap (IsTyped types) kind_of new.graph
+      objects = All-unmap (IsTyped types) kind_of new.graph
           (subst (All (IsTyped types)) (sym more)
           (All-push (IsTyped types) kinds kind (All-map (IsTyped types) kind_of old.graph typed.objects) own));
       common = sym (first-kind new.graph) ∙ ap (λ (all : List Kind). slice_index_or all 0 (kind_of common_object)) more

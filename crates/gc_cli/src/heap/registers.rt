@@ -29,8 +29,8 @@ impl Heap<'_> {
             → address ≡ name_address placement name → IfSome name (λ number. number < length world.graph)
             → ShowsBy self.new placement (with_register world t reg name) }
     {
-        let place = usize::from(reg.index());
-        self.bays[usize::from(t)].registers[place] = address;
+        let index = usize::from(reg.index());
+        self.bays[usize::from(t)].registers[index] = address;
     }
 
     /// Whether a mutator is blocked.

@@ -5,13 +5,13 @@ use Rattle.gc_cli.specs.Heap.{ShowsWorld, Stays}
 use Rattle.gc_cli.proofs.play.play_lines.Given as goal
 
 -- the heap shows the world after the lines so far, and the replies to them are there
-abbrev pub invariant-loop-place : goal.invariant-loop-place
-invariant-loop-place l = record {
+abbrev pub invariant-loop-index : goal.invariant-loop-index
+invariant-loop-index l = record {
   stays : Stays l.fn.heap l.heap;
   shown : (world : World) → ShowsWorld l.fn.heap world → ShowsWorld l.heap
-      (world_after_lines l.fn.heap.types.now l.fn.heap.places.nursery world (take l.place l.script.lines));
+      (world_after_lines l.fn.heap.types.now l.fn.heap.places.nursery world (take l.index l.script.lines));
   replies : (world : World) → ShowsWorld l.fn.heap world
-      → l.replies.items ≡ replies_of l.fn.heap.types.now l.fn.heap.places.nursery world (take l.place l.script.lines);
-  answered : vec_len l.replies ≡ l.place;
+      → l.replies.items ≡ replies_of l.fn.heap.types.now l.fn.heap.places.nursery world (take l.index l.script.lines);
+  answered : vec_len l.replies ≡ l.index;
   room : length l.script.lines ≤ vec_capacity l.replies;
 }

@@ -32,9 +32,9 @@ returns-clause-answered c placement world shown =
     let fits : made_words world.graph c.args.t + size_of (shape_at types c.args.ty.0) ≤ heap.places.nursery =
     omega (arith, c.if-used-size.false, c.nursery.ensures.nursery, size, used, (shown.used c.args.t c.requires.mutator).0) in
     let made = shows_made types heap.places heap.words.items heap.bays placement world shown c.args.t c.from-2.result c.args.ty.0
-    c.args.into c.from-place.result _ _ c.header.result c.size-size.result (shape_at types c.args.ty.0)
+    c.args.into c.from-index.result _ _ c.header.result c.size-size.result (shape_at types c.args.ty.0)
     (record { used = 0; registers = []; blocked = false }) c.from-2.ensures
-    (c.from-place.ensures ∙ c.index.ensures.index) c.requires.mutator
+    (c.from-index.ensures ∙ c.index.ensures.index) c.requires.mutator
     (omega (arith, c.index.ensures.index, c.index.ensures.below)) c.requires.known refl size (omega (arith, used))
     (omega (arith, c.if-used-size.false, c.nursery.ensures.nursery)) (omega (arith, c.half_start.ensures, used)) c.header.ensures in
     answered_as _ _ _ _ (new_done types heap.places.nursery world c.args.t c.args.into c.args.ty.0 fits)

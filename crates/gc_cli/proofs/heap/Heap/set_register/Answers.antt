@@ -4,6 +4,6 @@ use Rattle.gc_cli.proofs.heap.Heap.set_register.Goals as goal
 
 pub returns-clause-named : goal.returns-clause-named
 returns-clause-named c placement world name shown address_is there =
-    shows_register _ _ _ _ placement world shown c.args.t c.from.result c.args.reg c.from-place.result c.args.address name _
-    c.from.ensures (c.from-place.ensures ∙ c.index.ensures.index) c.requires.mutator
+    shows_register _ _ _ _ placement world shown c.args.t c.from.result c.args.reg c.from-index.result c.args.address name _
+    c.from.ensures (c.from-index.ensures ∙ c.index.ensures.index) c.requires.mutator
     (omega (arith, c.index.ensures.index, c.index.ensures.below)) address_is there
