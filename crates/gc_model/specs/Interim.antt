@@ -14,7 +14,6 @@ use Rattle.gc_model.specs.Graph.{made_words}
 use Rattle.gc_model.specs.History.{Configuration, History, world_after}
 use Rattle.gc_model.specs.World.{World}
 use Rattle.gc_model.specs.Answer.{Answer, answer, shape_at}
-pub use Rattle.gc_model.specs.Built.{IsBuilt}
 
 -- a new object is refused exactly where the objects that the mutator made and the new one are together above a half
 abbrev pub FullAboveHalf : Configuration → History → Entry → Type 0

@@ -3,7 +3,7 @@ use Rattle.std.proofs.Common.{◌≡◌, ℕ, ◌+◌, ◌<◌, List, [], ◌∷
 use Rattle.std.proofs.lemmas.Bool.{eqb-true}
 use Rattle.std.specs.Str.{bytes_eq}
 use Rattle.gc_model.specs.Answer.{Suits}
-use Rattle.gc_model.specs.Interim.{IsBuilt}
+use Rattle.gc_model.specs.Built.{IsBuilt}
 use Rattle.gc_model.specs.declared.call.Call.{Call}
 use Rattle.gc_model.specs.declared.call.Call.TheVariants as calls
 use Rattle.gc_model.specs.declared.call.Line.{Line}

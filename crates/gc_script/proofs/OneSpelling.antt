@@ -5,7 +5,7 @@ use Rattle.std.proofs.lemmas.List.Elements.{All-nil, All-cons, All-weaker}
 use Rattle.std.specs.Str.{bytes_eq}
 use Rattle.gc_layout.specs.declared.shape.Shape.{Shape}
 use Rattle.gc_layout.specs.Shape.{size_of}
-use Rattle.gc_model.specs.Interim.{IsBuilt}
+use Rattle.gc_model.specs.Built.{IsBuilt}
 use Rattle.gc_model.specs.declared.call.Line.{Line}
 use Rattle.gc_script.proofs.CallLemmas.{call_line-read, call_line-again, read_line-fits, readable-built, script_line-fit}
 use Rattle.gc_script.proofs.KindLemmas.{number_below-written}

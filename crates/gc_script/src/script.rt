@@ -1,7 +1,7 @@
 //! A script as its callers see it.
 
 ghost use Rattle.std.specs.Prelude.{◌≡◌, ◌<◌, ◌≤◌, ◌↔◌, length, slice_get, IsNone, IfSome};
-ghost use Rattle.gc_model.specs.Interim.{IsBuilt};
+ghost use Rattle.gc_model.specs.Built.{IsBuilt};
 ghost use Rattle.gc_script.specs.Text.{most_bytes};
 
 use crate::lines::Lines;

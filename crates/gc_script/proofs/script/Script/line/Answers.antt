@@ -1,4 +1,4 @@
-use Rattle.gc_model.specs.Interim.{IsBuilt}
+use Rattle.gc_model.specs.Built.{IsBuilt}
 use Rattle.gc_script.specs.Laws.{IsReadLine}
 use Rattle.gc_script.specs.Script.{IsFitLine, IsScriptLine}
 use Rattle.gc_script.proofs.ListLemmas.{All-slice_get}
