@@ -1,5 +1,5 @@
 -- The table of calls, both ways; and what a call line that is read says.
-use Rattle.std.proofs.Common.{◌≡◌, ℕ, ◌+◌, ◌<◌, List, [], ◌∷◌, length, Bool, true, false, Some, Result, Ok, Err, refl, sym, subst, ap, ap₂, ◌∙◌, arith, ◌==◌, if◌then◌else◌, decimal}
+use Rattle.std.proofs.Common.{◌≡◌, ℕ, ◌+◌, List, [], ◌∷◌, length, Bool, true, false, Some, Ok, refl, sym, subst, ap, ◌∙◌, arith, ◌==◌, if◌then◌else◌}
 use Rattle.std.proofs.lemmas.Bool.{eqb-true}
 use Rattle.std.specs.Str.{bytes_eq}
 use Rattle.gc_model.specs.Answer.{Suits}
@@ -10,14 +10,12 @@ use Rattle.gc_model.specs.declared.call.Line.{Line}
 use Rattle.gc_script.specs.declared.calls.CallWord.{CallWord}
 use Rattle.gc_script.specs.declared.calls.CallWord.TheVariants.{New, Get, Put, Ask, Set, Swap, Same, Copy, Clear, Share, Take, Await, Safepoint, Block, Unblock}
 use Rattle.gc_script.specs.declared.calls.Kind.{Kind}
-use Rattle.gc_script.specs.declared.fault.Cause.{Cause}
-use Rattle.gc_script.specs.Calls.{each_call_word, spelled_among, call_word, spelled_word, kinds_of, call_from, parts_of, AreOfKinds, AreReadable, IsReadable}
-use Rattle.gc_script.specs.Fault.{◌>>=◌}
+use Rattle.gc_script.specs.Calls.{each_call_word, spelled_among, call_word, spelled_word, kinds_of, call_from, parts_of, AreOfKinds, IsReadable}
 use Rattle.gc_script.specs.Grammar.{counted_word, call_of, call_line}
 use Rattle.gc_script.specs.Laws.{IsReadLine}
 use Rattle.gc_script.specs.Script.{Preamble, IsFitLine, IsScriptLine}
 use Rattle.gc_script.specs.Words.{number_below, numbers_of}
-use Rattle.gc_script.specs.Written.{words_of_kinds, words_of_parts, call_words, line_words}
+use Rattle.gc_script.specs.Written.{words_of_parts, line_words}
 use Rattle.gc_script.proofs.KindLemmas.{number_below-written, number_below-fits, words-read}
 use Rattle.gc_script.proofs.Passed.{if-passes, both-pass, bytes_eq-true}
 

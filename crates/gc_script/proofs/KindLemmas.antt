@@ -1,5 +1,5 @@
 -- A word that gives a number is the word that is written of it, and the number is one of the word's kind.
-use Rattle.std.proofs.Common.{◌≡◌, ℕ, suc, ◌+◌, ◌^◌, ◌<◌, ◌≤◌, List, [], ◌∷◌, length, get_or, Bool, true, false, ◌&&◌, nat_lt, ◌==◌, Option, Some, None, Result, Ok, Err, refl, sym, ap, ap₂, ◌∙◌, arith, if◌then◌else◌}
+use Rattle.std.proofs.Common.{◌≡◌, ℕ, suc, ◌+◌, ◌^◌, ◌<◌, List, [], ◌∷◌, length, get_or, Bool, true, false, ◌&&◌, nat_lt, ◌==◌, Option, Some, None, Ok, refl, sym, ap, ap₂, ◌∙◌, arith, if◌then◌else◌}
 use Rattle.std.proofs.lemmas.Bool.Decides.{nat_tests}
 use Rattle.std.proofs.lemmas.Bool.{eqb-true}
 use Rattle.std.proofs.lemmas.Fmt.{decimal-digits_value}
@@ -11,9 +11,8 @@ use Rattle.gc_script.specs.declared.calls.Kind.{Kind}
 use Rattle.gc_script.specs.declared.calls.Kind.TheVariants as kinds
 use Rattle.gc_script.specs.declared.fault.Cause.{Cause}
 use Rattle.gc_script.specs.Calls.{IsOfKind, AreOfKinds}
-use Rattle.gc_script.specs.Fault.{◌>>=◌}
 use Rattle.gc_script.specs.Words.{is_numeral, numeral, below, number_below, register, type_from, number_of, numbers_of}
-use Rattle.gc_script.specs.Written.{register_word, name_of, word_of, words_of_kinds}
+use Rattle.gc_script.specs.Written.{name_of, word_of, words_of_kinds}
 use Rattle.gc_script.proofs.Passed.{if-passes, both-pass, bytes_eq-true}
 
 -- a numeral has a digit or more

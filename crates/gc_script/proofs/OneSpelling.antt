@@ -1,5 +1,5 @@
 -- An accepted text has one spelling, but for its last newline.
-use Rattle.std.proofs.Common.{◌≡◌, ℕ, suc, ◌+◌, ◌<◌, All, List, [], ◌∷◌, ◌++◌, length, flat_map, Bool, true, false, cond, not, ◌&&◌, nat_lt, nat_le, if◌then◌else◌, eqb, Result, Ok, Err, codes, decimal, refl, ap, ap₂, sym, subst, ◌∙◌, inl, inr, append_assoc, append-nil, arith}
+use Rattle.std.proofs.Common.{◌≡◌, ℕ, suc, ◌+◌, ◌<◌, All, List, [], ◌∷◌, ◌++◌, length, flat_map, Bool, true, false, cond, not, ◌&&◌, nat_lt, nat_le, if◌then◌else◌, eqb, Ok, Err, codes, decimal, refl, ap, ap₂, sym, subst, ◌∙◌, inl, inr, append_assoc, append-nil, arith}
 use Rattle.std.proofs.lemmas.Bool.{eqb-true}
 use Rattle.std.proofs.lemmas.List.Elements.{All-nil, All-cons, All-weaker}
 use Rattle.std.specs.Str.{bytes_eq}
@@ -10,7 +10,6 @@ use Rattle.gc_model.specs.declared.call.Line.{Line}
 use Rattle.gc_script.proofs.CallLemmas.{call_line-read, call_line-again, read_line-fits, readable-built, script_line-fit}
 use Rattle.gc_script.proofs.KindLemmas.{number_below-written}
 use Rattle.gc_script.proofs.Passed.{if-passes, both-pass, at_line-ok, not_refused-ok, bytes_eq-true}
-use Rattle.gc_script.specs.declared.fault.Cause.{Cause}
 use Rattle.gc_script.specs.declared.fault.Cause.TheVariants.{«Type» as TypeCause, Mutator}
 use Rattle.gc_script.specs.Fault.{◌>>=◌, at_line}
 use Rattle.gc_script.specs.Grammar.{mutators_line, is_type_line, is_in_use, with_type, shape_of, type_line, call_line, call_lines, script_with_calls, body, after_version, script_of_lines, IsScript}

@@ -1,17 +1,12 @@
 -- Reading one thing after another.
-use Rattle.std.proofs.Common.{◌≡◌, ℕ, suc, ◌+◌, ◌<◌, List, [], ◌∷◌, ◌++◌, length, drop, slice_index_or, Result, Ok, Err, refl, sym, ap, ◌∙◌, append_assoc, arith}
-use Rattle.std.proofs.Math.Seq.{drop-cons}
-use Rattle.std.proofs.Math.Numerals.{add-one}
+use Rattle.std.proofs.Common.{◌≡◌, ℕ, ◌+◌, List, [], ◌∷◌, ◌++◌, Result, Ok, Err, refl, sym, ap, ◌∙◌, append_assoc}
 use Rattle.gc_model.specs.declared.call.Line.{Line}
-use Rattle.gc_script.specs.declared.calls.Kind.{Kind}
-use Rattle.gc_script.specs.declared.calls.Kind.TheVariants.{Register}
 use Rattle.gc_script.specs.declared.fault.Cause.{Cause}
 use Rattle.gc_script.specs.declared.fault.Fault.{Fault}
 use Rattle.gc_script.specs.Fault.{◌>>=◌}
 use Rattle.gc_script.specs.Grammar.{call_line, call_lines}
 use Rattle.gc_script.specs.Script.{Preamble}
 use Rattle.gc_script.specs.Text.{words_of}
-use Rattle.gc_script.specs.Words.{number_of, numbers_of}
 
 -- what was read before, and then what these give
 abbrev pub with_front : {A E : Type 0} → List A → Result (List A) E → Result (List A) E

@@ -36,6 +36,22 @@ impl Preamble {
     ghost use Rattle.gc_script.specs.Words.{is_type_name};
     ghost use Rattle.gc_script.specs.declared.fault.ReadError.TheVariants.{Memory};
 
+    /// Nothing is declared yet.
+    pub(crate) fn make(alloc: Global, mutators: u8) -> Result<Preamble, ReadError<Fault>>
+        requires some { 1 ≤ mutators }
+        requires few { mutators ≤ 8 }
+        ensures { MatchResult result (λ made. made ≡ first_preamble mutators) (λ error. error ≡ Memory) }
+    {
+        let Ok(types) = Types::make(alloc) else {
+            return Err(ReadError::Memory);
+        };
+        Ok(Preamble {
+            mutators,
+            names: Names::new(alloc),
+            types,
+        })
+    }
+
     /// How many mutators there are, 1 to 8.
     pub(crate) fn mutators(&self) -> u8
         ensures mutators { result ≡ self.now.mutators }
@@ -61,22 +77,6 @@ impl Preamble {
         ensures { result.now ≡ self.now.types }
     {
         &self.types
-    }
-
-    /// Nothing is declared yet.
-    pub(crate) fn make(alloc: Global, mutators: u8) -> Result<Preamble, ReadError<Fault>>
-        requires some { 1 ≤ mutators }
-        requires few { mutators ≤ 8 }
-        ensures { MatchResult result (λ made. made ≡ first_preamble mutators) (λ error. error ≡ Memory) }
-    {
-        let Ok(types) = Types::make(alloc) else {
-            return Err(ReadError::Memory);
-        };
-        Ok(Preamble {
-            mutators,
-            names: Names::new(alloc),
-            types,
-        })
     }
 
     /// What is declared once a type line is read.
