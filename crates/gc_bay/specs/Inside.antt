@@ -1,4 +1,4 @@
--- How a bay is kept.
+-- How a bay stands in its fields.
 use Rattle.std.specs.Prelude.{◌≡◌, ◌≤◌, vec_capacity}
 use Rattle.gc_layout.specs.Places.{address_of}
 use Rattle.gc_layout.specs.declared.places.Part.TheVariants.{Half}

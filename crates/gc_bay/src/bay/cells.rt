@@ -23,7 +23,7 @@ impl Bay {
         ensures unchanged { IfNone result (self.new ≡ self.old) }
         ensures pages { (offset : ℕ) → next_cell self.old.pages (class_of size) ≡ Some offset
             → self.new.pages ≡ with_cell self.old.pages (class_of size) offset }
-        ensures taken { (offset : ℕ) → next_cell self.old.pages (class_of size) ≡ Some offset
+        ensures takes { (offset : ℕ) → next_cell self.old.pages (class_of size) ≡ Some offset
             → TakesCell self.old.pages self.new.pages (class_of size) offset }
         ensures given { self.new.given + free_pages self.new.pages ≡ self.old.given + free_pages self.old.pages }
         ensures rest { self.new ≡ record self.old { pages = self.new.pages; given = self.new.given } }

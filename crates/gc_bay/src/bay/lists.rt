@@ -53,7 +53,7 @@ impl Bay {
         ensures address { result ≡ slice_get self.old.grey (length self.old.grey - 1) }
         ensures none { IsNone result ↔ (self.old.grey ≡ []) }
         ensures unchanged { IfNone result (self.new ≡ self.old) }
-        ensures taken { IfSome result (λ a. self.old.grey ≡ self.new.grey ++ a ∷ []) }
+        ensures last { IfSome result (λ a. self.old.grey ≡ self.new.grey ++ a ∷ []) }
         ensures rest { self.new ≡ record self.old { grey = self.new.grey } }
     {
         self.grey.pop()

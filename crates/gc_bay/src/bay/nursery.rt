@@ -14,7 +14,7 @@ impl Bay {
         ensures address { result ≡ next_in_half self.old size }
         ensures none { IsNone result ↔ (self.old.layout.nursery < self.old.used + size) }
         ensures unchanged { IfNone result (self.new ≡ self.old) }
-        ensures taken { OnSome result (self.new ≡ record self.old { used = self.old.used + size }) }
+        ensures used { OnSome result (self.new ≡ record self.old { used = self.old.used + size }) }
         ensures fresh { IfSome result (λ a. IsFreshExtent self.old a size) }
     {
         let a = self.peek_bump(size)?;
