@@ -5,6 +5,7 @@ ghost use Rattle.gc_bay.specs.Room.{batch_room, grey_room, remembered_room};
 
 use crate::{Batch, Bay};
 use gc_layout::Places;
+use std::process::Abort;
 use std::test::Fail;
 
 /// The bay of a mutator in a heap of so many mutators, words of a half, and pages.
@@ -183,5 +184,70 @@ fn a_batch_is_filled_to_62(rt: HostRuntime) -> Result<(), Fail> {
     assert_eq!(rt; bay.peek_batch(2).len(), 62);
     bay.batch(2).clear();
     assert!(rt; bay.peek_batch(2).is_empty());
+    Ok(())
+}
+
+/// Takes a whole half, a word of the other one, and a cell, of a bay that was just made, and looks at its batches.
+/// The mutator's region begins at a start.
+fn try_bay(rt: &impl Abort, bay: &mut Bay, start: u64, half: u64) -> Result<(), Fail> {
+    let first = start.saturating_add(16);
+    let second = first.saturating_add(half);
+    assert_eq!(rt; bay.bump(half), Some(first));
+    assert_eq!(rt; bay.bump(1), None);
+    bay.flip();
+    assert_eq!(rt; bay.bump(1), Some(second));
+    assert_eq!(rt; bay.cell(64), Some(second.saturating_add(half)));
+    assert_eq!(rt; bay.reg(15), 0);
+    let places = bay.places();
+    for owner in 0..places.mutators() {
+        assert!(rt; bay.peek_batch(owner).is_empty());
+    }
+    Ok(())
+}
+
+#[test]
+fn each_bay_is_made(rt: HostRuntime) -> Result<(), Fail> {
+    for mutators in 1..=8u8 {
+        for half in [64, 65, 4096, 65_535, 65_536u32] {
+            for pages in [1, 2, 8, 127, 128u16] {
+                let region = 16 + 2 * u64::from(half) + 1024 * u64::from(pages);
+                let places = Places::make(mutators, half, pages).ok_or("no places")?;
+                for m in 0..mutators {
+                    let mut bay = Bay::make(rt.alloc(), places, m)?;
+                    try_bay(&rt, &mut bay, 1 + u64::from(m) * region, u64::from(half))?;
+                }
+            }
+        }
+    }
+    Ok(())
+}
+
+#[test]
+fn a_bay_is_made_for_each_half_and_each_number_of_pages(rt: HostRuntime) -> Result<(), Fail> {
+    for half in 64..=65_536u32 {
+        let places = Places::make(1, half, 1).ok_or("no places")?;
+        let bay = Bay::make(rt.alloc(), places, 0)?;
+        assert_eq!(rt; bay.used(), 0);
+    }
+    for pages in 1..=128u16 {
+        let places = Places::make(8, 64, pages).ok_or("no places")?;
+        let bay = Bay::make(rt.alloc(), places, 7)?;
+        assert_eq!(rt; bay.gen2().free_pages(), pages);
+    }
+    Ok(())
+}
+
+#[test]
+fn the_lists_are_filled_for_each_number_of_mutators(rt: HostRuntime) -> Result<(), Fail> {
+    for mutators in 1..=8u8 {
+        let places = Places::make(mutators, 65, 2).ok_or("no places")?;
+        let mut bay = Bay::make(rt.alloc(), places, 0)?;
+        fill_grey(&mut bay, 544);
+        assert_eq!(rt; bay.peek_grey(), Some(544));
+        let mut bay = Bay::make(rt.alloc(), places, 0)?;
+        fill_remembered(&mut bay, 512 * u64::from(mutators));
+        assert_eq!(rt; bay.remembered(511), Some(512));
+        assert!(rt; bay.remembered(512).is_some() == (mutators > 1));
+    }
     Ok(())
 }

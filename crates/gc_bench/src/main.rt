@@ -7,6 +7,8 @@
 
 mod loops;
 mod random;
+#[cfg(test)]
+mod tests;
 
 use std::env;
 use std::process::ExitCode;

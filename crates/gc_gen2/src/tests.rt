@@ -1,4 +1,4 @@
-//! Rows worked out by hand: which cell is given next, and the counts after it.
+//! Rows worked out by hand: which cell is given next, and the counts after it; and each number of pages and each size.
 
 use crate::{Gen2, class_of};
 use std::test::Fail;
@@ -127,4 +127,26 @@ fn a_page_keeps_its_class(rt: HostRuntime) -> Result<(), Fail> {
 fn a_class_is_a_multiple_of_four(rt: HostRuntime) {
     assert_eq!(rt; (class_of(2), class_of(4), class_of(5)), (4, 4, 8));
     assert_eq!(rt; (class_of(60), class_of(61), class_of(64)), (60, 64, 64));
+}
+
+#[test]
+fn each_size_has_its_class(rt: HostRuntime) {
+    let mut class: u8 = 4;
+    for size in 2..=64u64 {
+        if size > u64::from(class) {
+            class = class.saturating_add(4);
+        }
+        assert_eq!(rt; class_of(size), class, "at {size}");
+    }
+}
+
+#[test]
+fn each_number_of_pages_is_made(rt: HostRuntime) -> Result<(), Fail> {
+    for pages in 1..=128u16 {
+        let mut gen2 = Gen2::make(rt.alloc(), pages)?;
+        assert_eq!(rt; gen2.page_count(), pages);
+        assert_eq!(rt; (gen2.used_cells(), gen2.free_pages()), (0, pages));
+        assert_eq!(rt; gen2.take_cell(64), Some(0), "with {pages} pages");
+    }
+    Ok(())
 }
