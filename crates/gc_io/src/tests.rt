@@ -15,6 +15,8 @@ enum Step {
     Interrupted,
     NotReady,
     Broken,
+    /// The error of the system with this number.
+    System(i32),
 }
 
 /// A device that does these steps in turn, and then nothing. It reads the letter x for ever.
@@ -34,6 +36,7 @@ impl<'a> Device<'a> {
             Step::Interrupted => Err(io::Error::from(ErrorKind::Interrupted)),
             Step::NotReady => Err(io::Error::from(ErrorKind::WouldBlock)),
             Step::Broken => Err(io::Error::other("broken")),
+            Step::System(number) => Err(io::Error::from_raw_os_error(*number)),
         }
     }
 }
@@ -230,4 +233,121 @@ fn open_gate_lets_every_line_pass(rt: HostRuntime) {
     let gate = OpenGate;
     assert!(rt; gate.before(0, 1));
     gate.after(0, 1);
+}
+
+/// The system's number of an interrupt by a signal, and its greatest number of an error.
+const INTERRUPT: i32 = 4;
+
+const LAST_ERROR: i32 = 133;
+
+#[test]
+fn each_error_but_an_interrupt_is_a_fault(rt: HostRuntime) {
+    let mut room = [0; 4];
+    for number in 1..=LAST_ERROR {
+        let steps = [Step::System(number), Step::Moves(1)];
+        let mut source = StdSource::make(Device { steps: &steps });
+        let mut sink = StdSink::make(Device { steps: &steps });
+        let mut flushed = StdSink::make(Device { steps: &steps });
+        let (taken, put) = if number == INTERRUPT {
+            (Taken::Bytes(1), Put::All)
+        } else {
+            (Taken::Failed, Put::Failed)
+        };
+        assert_eq!(rt; source.take(&mut room), taken, "error {number}");
+        assert_eq!(rt; sink.put(b"x"), put, "error {number}");
+        assert_eq!(rt; flushed.finish(), put, "error {number}");
+    }
+}
+
+#[test]
+fn any_number_of_interrupts_is_waited_out(rt: HostRuntime) {
+    let mut room = [0; 4];
+    let mut steps = [Step::Interrupted; 301];
+    steps[300] = Step::Moves(1);
+    for first in 0..=300 {
+        let steps = &steps[first..];
+        assert_eq!(rt;
+            StdSource::make(Device { steps }).take(&mut room),
+            Taken::Bytes(1)
+        );
+        assert_eq!(rt; StdSink::make(Device { steps }).put(b"x"), Put::All);
+        assert_eq!(rt; StdSink::make(Device { steps }).finish(), Put::All);
+    }
+}
+
+#[test]
+fn any_number_of_faults_is_told_one_by_one(rt: HostRuntime) {
+    let mut room = [0; 4];
+    let mut steps = [Step::Broken; 31];
+    steps[30] = Step::Moves(1);
+    for faults in 0..=30 {
+        let steps = &steps[30 - faults..];
+        let mut source = StdSource::make(Device { steps });
+        let mut sink = StdSink::make(Device { steps });
+        let mut flushed = StdSink::make(Device { steps });
+        for _ in 0..faults {
+            assert_eq!(rt; source.take(&mut room), Taken::Failed);
+            assert_eq!(rt; sink.put(b"x"), Put::Failed);
+            assert_eq!(rt; flushed.finish(), Put::Failed);
+        }
+        assert_eq!(rt; source.take(&mut room), Taken::Bytes(1));
+        assert_eq!(rt; sink.put(b"x"), Put::All);
+        assert_eq!(rt; flushed.finish(), Put::All);
+    }
+}
+
+#[test]
+fn rooms_and_pieces_of_each_length_are_moved(rt: HostRuntime) -> Result<(), Fail> {
+    for length in (1..=300).chain(65_530..=65_540) {
+        assert!(rt; length > 0);
+        let piece = vec![in rt.alloc(); b'x'; length]?;
+        let mut room = vec![in rt.alloc(); b'.'; length]?;
+        let mut source = StdSource::make(piece.as_slice());
+        assert_eq!(rt; source.take(room.as_mut_slice()), Taken::Bytes(length));
+        assert_eq!(rt; source.take(room.as_mut_slice()), Taken::End);
+
+        let mut bytes = Vec::new(rt.alloc());
+        assert_eq!(rt; StdSink::make(&mut bytes).put(piece.as_slice()), Put::All);
+        assert_eq!(rt; bytes.len(), length);
+
+        let mut sink = MemorySink::make(rt.alloc(), length, Vec::new(rt.alloc()))?;
+        assert_eq!(rt; sink.put(piece.as_slice()), Put::All);
+        assert_eq!(rt; sink.put(b"x"), Put::Failed);
+    }
+    Ok(())
+}
+
+#[test]
+fn a_piece_of_each_length_is_written_a_byte_at_a_time(rt: HostRuntime) -> Result<(), Fail> {
+    let one_byte_each = [Step::Moves(1); 300];
+    for length in 0..=300 {
+        let steps = &one_byte_each[..length];
+        let piece = vec![in rt.alloc(); b'x'; length]?;
+        assert_eq!(rt;
+            StdSink::make(Device { steps }).put(piece.as_slice()),
+            Put::All
+        );
+    }
+    Ok(())
+}
+
+#[test]
+fn memory_sinks_of_no_room_and_of_each_number_of_failing_calls(
+    rt: HostRuntime,
+) -> Result<(), Fail> {
+    let mut empty = MemorySink::make(rt.alloc(), 0, Vec::new(rt.alloc()))?;
+    assert_eq!(rt; empty.put(b""), Put::All);
+    assert_eq!(rt; empty.put(b"x"), Put::Failed);
+    for count in 0..=30u32 {
+        let mut failing = Vec::new(rt.alloc());
+        for number in 1..=count {
+            failing.push(number)?;
+        }
+        let mut sink = MemorySink::make(rt.alloc(), 4, failing)?;
+        for _ in 0..count {
+            assert_eq!(rt; sink.put(b"x"), Put::Failed);
+        }
+        assert_eq!(rt; sink.put(b"x"), Put::All);
+    }
+    Ok(())
 }

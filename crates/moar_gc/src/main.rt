@@ -13,6 +13,7 @@ ghost use Rattle.std.specs.Prelude.{◌≡◌, ◌≢◌, ◌⊎◌, ◌≤◌, 
 ghost use Rattle.std.specs.Result.{ForErr};
 ghost use Rattle.gc_io.specs.Faults.{HasRisen};
 ghost use Rattle.gc_io.specs.Streams.{Appends};
+ghost use Rattle.gc_cli.specs.Causes.{IsOrNoMemory};
 ghost use Rattle.gc_cli.specs.Command.{request_of, status_line};
 ghost use Rattle.gc_cli.specs.Played.{GivesScript, IsTooLong, IsNoScript, BreaksOff};
 
@@ -56,7 +57,11 @@ fn run<S: Source, W: Write + Drop, E: Sink>(
 ) -> Status
     requires { ForErr words (λ status. (status ≡ Status.Usage) ⊎ (status ≡ Status.NoMemory)) }
     ensures no_words { IfErr words (λ status. result ≡ status) }
+    ensures no_words_reads_nothing { IfErr words (λ _. src.new ≡ src.old) }
     ensures usage { IfOk words (λ words. result ≡ Status.Usage → request_of (map string_bytes words.items) ≡ None) }
+    ensures usage_is_told { IfOk words (λ words. request_of (map string_bytes words.items) ≡ None
+        → IsOrNoMemory Status.Usage result) }
+    ensures usage_reads_nothing { result ≡ Status.Usage → src.new ≡ src.old }
 
     // What the top call says of the source, whatever source it is.
     ensures done { result ≡ Status.Done → GivesScript (S.rest src.old) (S.rest src.new) }
@@ -103,6 +108,8 @@ fn play_and_flush<S: Source, W: Write + Drop, E: Sink>(
     err: &mut E,
 ) -> Status
     ensures usage { result ≡ Status.Usage → request_of (map string_bytes words.now) ≡ None }
+    ensures usage_is_told { request_of (map string_bytes words.now) ≡ None → result ≡ Status.Usage }
+    ensures usage_reads_nothing { result ≡ Status.Usage → src.new ≡ src.old }
     ensures done { result ≡ Status.Done → GivesScript (S.rest src.old) (S.rest src.new) }
     ensures write_fault { result ≡ Status.WriteFault → GivesScript (S.rest src.old) (S.rest src.new) }
     ensures write_fault_counted { result ≡ Status.WriteFault → HasRisen out.old.faults out.new.faults }
