@@ -11,3 +11,4 @@ pub mod Steps
 pub mod Sums
 pub mod Typed
 pub mod Worklist
+mod Examples

@@ -186,12 +186,96 @@ fn an_object_may_have_62_numbers(rt: HostRuntime) -> Result<(), Fail> {
 #[test]
 fn each_of_up_to_8_mutators_makes_objects(rt: HostRuntime) -> Result<(), Fail> {
     let alloc = rt.alloc();
-    assert_eq!(rt; live_of_each(alloc, 1)?, live(2, 21));
-    assert_eq!(rt; live_of_each(alloc, 2)?, live(3, 24));
-    assert_eq!(rt; live_of_each(alloc, 5)?, live(6, 33));
-    assert_eq!(rt; live_of_each(alloc, 6)?, live(7, 36));
-    assert_eq!(rt; live_of_each(alloc, 7)?, live(8, 39));
-    assert_eq!(rt; live_of_each(alloc, 8)?, live(9, 42));
+    for mutators in 1..=8u8 {
+        let made = u64::from(mutators);
+        assert_eq!(rt;
+            live_of_each(alloc, mutators)?,
+            live(1 + made, 18 + 3 * made),
+            "at {mutators} mutators"
+        );
+    }
+    Ok(())
+}
+
+#[test]
+fn an_object_has_each_shape(rt: HostRuntime) -> Result<(), Fail> {
+    let alloc = rt.alloc();
+    for slots in 0..63u8 {
+        for numbers in 0..63 - slots {
+            let mut world = world_with(alloc, slots, numbers, 1)?;
+            assert_eq!(rt;
+                call(&mut world, alloc, 0, new(0))?,
+                Done,
+                "at {slots} and {numbers}"
+            );
+            let words = 20 + u64::from(slots) + u64::from(numbers);
+            assert_eq!(rt;
+                world.count_live(alloc)?,
+                live(2, words),
+                "at {slots} and {numbers}"
+            );
+        }
+    }
+    Ok(())
+}
+
+#[test]
+fn each_register_names_an_object(rt: HostRuntime) -> Result<(), Fail> {
+    let alloc = rt.alloc();
+    for into in 0..16u8 {
+        let mut world = world_with(alloc, 0, 1, 1)?;
+        assert_eq!(rt;
+            call(&mut world, alloc, 0, new(into))?,
+            Done,
+            "at register {into}"
+        );
+        assert_eq!(rt; world.count_live(alloc)?, live(2, 21), "at register {into}");
+    }
+    Ok(())
+}
+
+/// With each number of types an object of the last one is made.
+#[test]
+fn there_may_be_each_number_of_types(rt: HostRuntime) -> Result<(), Fail> {
+    let alloc = rt.alloc();
+    let mut types = Types::make(alloc)?;
+    assert_eq!(rt; live_of_one(alloc, &types, TypeNo(0))?, live(2, 36));
+    for _ in 0..255u8 {
+        let shape = Shape {
+            slots: 1,
+            numbers: 0,
+        };
+        let Ok(ty) = types.add(shape) else {
+            break;
+        };
+        assert_eq!(rt; live_of_one(alloc, &types, ty)?, live(2, 21), "at {ty:?}");
+    }
+    assert_eq!(rt; types.count(), 256);
+    Ok(())
+}
+
+#[test]
+fn each_number_of_objects_is_counted(rt: HostRuntime) -> Result<(), Fail> {
+    let alloc = rt.alloc();
+    for made in 0..150u16 {
+        let count = u64::from(made);
+        assert_eq!(rt;
+            live_of_chain(alloc, made)?,
+            live(1 + count, 18 + 4 * count),
+            "at {made} objects"
+        );
+    }
+    Ok(())
+}
+
+#[test]
+fn more_than_65_536_objects_are_counted(rt: HostRuntime) -> Result<(), Fail> {
+    let alloc = rt.alloc();
+    let mut world = world_with(alloc, 2, 0, 8)?;
+    link(&mut world, alloc, 25_000)?;
+    assert_eq!(rt; world.count_live(alloc)?, live(25_001, 100_018));
+    link(&mut world, alloc, 41_000)?;
+    assert_eq!(rt; world.count_live(alloc)?, live(66_001, 264_018));
     Ok(())
 }
 
@@ -219,6 +303,23 @@ fn live_of_each(alloc: Global, mutators: u8) -> Result<Live, NoMemory>
     for t in 0..mutators {
         call(&mut world, alloc, t, new(0))?;
     }
+    world.count_live(alloc)
+}
+
+/// What is live once mutator 7 has made so many objects, each of which names the one before.
+fn live_of_chain(alloc: Global, count: u16) -> Result<Live, NoMemory> {
+    let mut world = world_with(alloc, 2, 0, 8)?;
+    link(&mut world, alloc, count)?;
+    world.count_live(alloc)
+}
+
+/// What is live in a world of these types once its one mutator has made an object of this type.
+fn live_of_one(alloc: Global, types: &Types, ty: TypeNo) -> Result<Live, NoMemory>
+    requires { ty.0 < length types.now }
+{
+    let mut world = World::make(alloc, types, 1)?;
+    let into = reg(0);
+    call(&mut world, alloc, 0, Call::New { into, ty })?;
     world.count_live(alloc)
 }
 
