@@ -319,14 +319,16 @@ fn rooms_and_pieces_of_each_length_are_moved(rt: HostRuntime) -> Result<(), Fail
 
 #[test]
 fn a_piece_of_each_length_is_written_a_byte_at_a_time(rt: HostRuntime) -> Result<(), Fail> {
-    let one_byte_each = [Step::Moves(1); 300];
+    let one_byte_each = [Step::Moves(1); 301];
     for length in 0..=300 {
-        let steps = &one_byte_each[..length];
+        let steps = &one_byte_each[300 - length..];
         let piece = vec![in rt.alloc(); b'x'; length]?;
-        assert_eq!(rt;
-            StdSink::make(Device { steps }).put(piece.as_slice()),
-            Put::All
-        );
+        let mut sink = StdSink::make(Device { steps });
+        assert_eq!(rt; sink.put(piece.as_slice()), Put::All);
+
+        // Nothing else was asked of the device.
+        assert_eq!(rt; sink.put(b"x"), Put::All);
+        assert_eq!(rt; sink.put(b"x"), Put::Failed);
     }
     Ok(())
 }

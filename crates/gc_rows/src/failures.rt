@@ -5,8 +5,10 @@
 ghost use Rattle.std.specs.Prelude.{◌<◌};
 
 use crate::doubles::{AskedSource, PieceSink};
+use crate::graph::graph_text;
 use crate::row::ONE_BOX;
-use gc_cli::{Status, moar_gc};
+use crate::scripts::{EIGHT, ONE, TWO, drawn_script};
+use gc_cli::{Status, moar_gc, write_status};
 use gc_io::{MemorySink, MemorySource, OpenGate};
 use std::alloc::{AllocError, Global};
 use std::process::Abort;
@@ -114,7 +116,7 @@ impl Ended {
 
 /// A sink whose calls with these numbers fail.
 fn sink(alloc: Global, failing: Calls) -> Result<PieceSink, Fail> {
-    let sink = MemorySink::make(alloc, 4096, numbers(alloc, failing)?)?;
+    let sink = MemorySink::make(alloc, 65_536, numbers(alloc, failing)?)?;
     Ok(PieceSink::make(alloc, sink))
 }
 
@@ -263,6 +265,69 @@ fn the_line_of_a_status_is_one_piece(rt: HostRuntime) -> Result<(), Fail> {
         trial
             .run(&rt)?
             .check(&rt, status, reads, output, failed.as_str());
+    }
+    Ok(())
+}
+
+/// The line of a status as it is put: once, and not tried again where that fails.
+fn check_status_line<R: Abort + AllocGlobal>(
+    rt: &R,
+    status: Status,
+    line: &str,
+) -> Result<(), Fail> {
+    let alloc = rt.alloc();
+    let mut err = sink(alloc, NONE)?;
+    write_status(status, &mut err);
+    let told = format!(in alloc; "{line}|")?;
+    assert_eq!(rt; err.pieces(), told.as_bytes());
+
+    let mut failing = sink(alloc, Calls { first: 1, last: 9 })?;
+    write_status(status, &mut failing);
+    let failed = format!(in alloc; "{line}!")?;
+    assert_eq!(rt; failing.pieces(), failed.as_bytes());
+    Ok(())
+}
+
+#[test]
+fn each_status_has_its_line_as_one_piece(rt: HostRuntime) -> Result<(), Fail> {
+    for (status, line) in [
+        (Status::Usage, "moar_gc: usage\n"),
+        (Status::Long, "moar_gc: script too long\n"),
+        (Status::ReadFault, "moar_gc: read fault\n"),
+        (Status::WriteFault, "moar_gc: write fault\n"),
+        (Status::NoMemory, "moar_gc: no memory\n"),
+    ] {
+        check_status_line(&rt, status, line)?;
+    }
+    for (cause, word) in [
+        (1, "version"),
+        (2, "word"),
+        (3, "number"),
+        (4, "register"),
+        (5, "type"),
+        (6, "mutator"),
+        (7, "duplicate"),
+    ] {
+        for line in [1, 9, 10, 1234567, u32::MAX] {
+            let told = format!(in rt.alloc(); "moar_gc: line {line}: {word}\n")?;
+            check_status_line(&rt, Status::Bad { line, cause }, told.as_str())?;
+        }
+    }
+    let mut err = sink(rt.alloc(), NONE)?;
+    write_status(Status::Done, &mut err);
+    assert_eq!(rt; err.pieces().len(), 0);
+    Ok(())
+}
+
+#[test]
+fn each_reply_of_a_long_script_is_one_piece(rt: HostRuntime) -> Result<(), Fail> {
+    let alloc = rt.alloc();
+    let drawn = drawn_script(alloc, 4, 500)?;
+    for script in [ONE, TWO, EIGHT, drawn.as_str()] {
+        let text = graph_text(alloc, script.as_bytes(), 4096)?;
+        let pieces = pieces_until(alloc, text.as_str(), 0)?;
+        let ended = Trial::plays(script).run(&rt)?;
+        ended.check(&rt, Status::Done, 2, pieces.as_str(), "");
     }
     Ok(())
 }

@@ -99,7 +99,7 @@ fn push_reply(text: &mut String, number: u32, reply: Reply) -> Result<(), AllocE
 }
 
 /// What the graph replies to a script, as it is to be printed.
-fn graph_text(alloc: Global, script: &[u8], half: u32) -> Result<String, Fail> {
+pub fn graph_text(alloc: Global, script: &[u8], half: u32) -> Result<String, Fail> {
     let script = read_script(alloc, script)?;
     let mut graph = Graph::make(alloc, &script, half)?;
     let mut text = String::new(alloc);

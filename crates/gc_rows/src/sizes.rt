@@ -75,6 +75,36 @@ fn each_size_is_played(rt: HostRuntime) -> Result<(), Fail> {
     Ok(())
 }
 
+/// Plays a script of one mutator on halves of so many words and so many pages.
+fn check_heap<R: Abort + AllocGlobal>(rt: &R, half: u32, pages: u16) -> Result<(), Fail> {
+    let (script, output) = neighbours(rt.alloc(), 1)?;
+    assert!(rt; 64 <= half && half <= 65_536 && 1 <= pages && pages <= 128);
+    let name = format!(in rt.alloc(); "{half} words and {pages} pages")?;
+    let out = printed(rt, name.as_str(), script.as_bytes(), &heap(half, pages))?;
+    assert_eq!(rt; out.bytes(), output.as_bytes(), "{name}");
+    Ok(())
+}
+
+#[test]
+fn each_number_of_pages_is_played(rt: HostRuntime) -> Result<(), Fail> {
+    for pages in 1..=128 {
+        check_heap(&rt, 64, pages)?;
+    }
+    Ok(())
+}
+
+#[test]
+fn each_smaller_half_is_played_and_some_larger_ones(rt: HostRuntime) -> Result<(), Fail> {
+    for half in 64..=600 {
+        check_heap(&rt, half, 1)?;
+    }
+    for thousands in 1..=65 {
+        check_heap(&rt, thousands * 1000, 8)?;
+        check_heap(&rt, thousands * 1000 + 500, 8)?;
+    }
+    Ok(())
+}
+
 #[test]
 fn the_greatest_heap_is_filled(rt: HostRuntime) -> Result<(), Fail> {
     let alloc = rt.alloc();
@@ -217,6 +247,71 @@ fn a_script_that_is_too_long_is_told(rt: HostRuntime) -> Result<(), Fail> {
         let (ended, err) = refused(&rt, count)?;
         assert_eq!(rt; ended, status);
         assert_eq!(rt; err.bytes(), line.as_bytes());
+    }
+    Ok(())
+}
+
+#[test]
+fn a_faulty_text_of_each_length_is_told(rt: HostRuntime) -> Result<(), Fail> {
+    for count in (0..=300).chain(65_530..=65_540).chain(131_070..=131_074) {
+        let (ended, err) = refused(&rt, count)?;
+        assert_eq!(rt; ended, Status::Bad { line: 1, cause: 1 }, "{count} bytes");
+        assert_eq!(rt; err.bytes(), b"moar_gc: line 1: version\n".as_slice());
+    }
+    Ok(())
+}
+
+/// A script of so many lines that clear a register, and what it prints.
+fn clears(alloc: Global, lines: u32) -> Result<(String, String), AllocError> {
+    let mut script = String::new(alloc);
+    let mut output = String::new(alloc);
+    script.push_str("moar-gc 1\nmutators 1\n")?;
+    for number in 0..lines {
+        script.push_str("0 clear r0\n")?;
+        writeln!(output, "{} done", number.saturating_add(3))?;
+    }
+    Ok((script, output))
+}
+
+#[test]
+fn each_number_of_lines_is_played_and_a_fault_behind_them_is_told(
+    rt: HostRuntime,
+) -> Result<(), Fail> {
+    let alloc = rt.alloc();
+    let mut words = Vec::new(alloc);
+    words.push("play".to_string(alloc)?)?;
+    for lines in 0..=150u32 {
+        let (mut script, output) = clears(alloc, lines)?;
+        let out = printed(&rt, "clears", script.as_bytes(), &heap(64, 1))?;
+        assert_eq!(rt; out.bytes(), output.as_bytes(), "{lines} lines");
+
+        script.push_str("1 clear r0\n")?;
+        let text = script.as_bytes().to_vec(alloc)?;
+        let mut src = MemorySource::make(text, 100, Vec::new(alloc));
+        let mut out = MemorySink::make(alloc, 64, Vec::new(alloc))?;
+        let mut err = MemorySink::make(alloc, 64, Vec::new(alloc))?;
+        let outcome = run_in_memory(&rt, alloc, words.as_slice(), &mut src, &mut out, &mut err);
+        let line = lines.saturating_add(3);
+        assert_eq!(rt; outcome.status, Status::Bad { line, cause: 6 });
+    }
+    Ok(())
+}
+
+#[test]
+fn each_number_of_types_is_played(rt: HostRuntime) -> Result<(), Fail> {
+    let alloc = rt.alloc();
+    let mut types = String::new(alloc);
+    let mut declared = 0u32;
+    for first in b'a'..=b'j' {
+        for second in b'a'..=b'y' {
+            let name = format!(in alloc; "{}{}", char::from(first), char::from(second))?;
+            writeln!(types, "type {name} 1 1")?;
+            declared = declared.saturating_add(1);
+            let script = format!(in alloc; "moar-gc 1\nmutators 1\n{types}0 new r0 {name}\n")?;
+            let output = format!(in alloc; "{} done\n", declared.saturating_add(3))?;
+            let out = printed(&rt, name.as_str(), script.as_bytes(), &heap(64, 1))?;
+            assert_eq!(rt; out.bytes(), output.as_bytes(), "{declared} types");
+        }
     }
     Ok(())
 }
