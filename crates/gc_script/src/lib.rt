@@ -23,6 +23,8 @@ mod names;
 mod preamble;
 mod read;
 mod script;
+#[cfg(test)]
+mod sizes;
 mod spelling;
 #[cfg(test)]
 mod tests;

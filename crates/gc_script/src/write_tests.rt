@@ -2,6 +2,7 @@
 
 ghost use Rattle.std.specs.Prelude.{None};
 
+use crate::faulty::type_name;
 use crate::{read_script, write_script};
 use gc_io::{Put, Sink};
 use std::alloc::{AllocError, Global};
@@ -118,6 +119,33 @@ fn each_line_is_one_piece(rt: HostRuntime) -> Result<(), Fail> {
             assert_eq!(rt; put, Put::All, "at {read:?}");
             assert_eq!(rt; record.as_slice(), all.as_slice(), "at {read:?}");
         }
+    }
+    Ok(())
+}
+
+/// A text in its one spelling, of 255 types and 300 lines.
+fn long_text(alloc: Global) -> Result<String, AllocError> {
+    let mut text = String::from_str(alloc, BARE)?;
+    for index in 0..255u8 {
+        let name = type_name(alloc, index)?;
+        writeln!(text, "type {name} 0 1")?;
+    }
+    for number in 0..300u16 {
+        writeln!(text, "0 set r0 0 {number}")?;
+    }
+    Ok(text)
+}
+
+// Of a long script too, and where a call fails nothing is put behind it.
+#[test]
+fn each_line_of_a_long_script_is_one_piece(rt: HostRuntime) -> Result<(), Fail> {
+    let text = long_text(rt.alloc())?;
+    for failing in [0, 1, 2, 3, 128, 257, 258, 400, 557] {
+        let (put, record) = write(rt.alloc(), text.as_str(), failing)?;
+        let before = recorded(rt.alloc(), text.as_str(), failing)?;
+        let end = if failing == 0 { Put::All } else { Put::Failed };
+        assert_eq!(rt; put, end, "at call {failing}");
+        assert!(rt; record.as_slice() == before.as_slice(), "at call {failing}");
     }
     Ok(())
 }
