@@ -8,7 +8,7 @@ use std::test::Fail;
 // The numbers of the causes.
 pub(crate) const VERSION: u8 = 1;
 
-pub(crate) const WORD: u8 = 2;
+const WORD: u8 = 2;
 
 const NUMBER: u8 = 3;
 

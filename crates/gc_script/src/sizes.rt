@@ -1,10 +1,8 @@
-//! Each size that a script may have: the mutators, the types, their shapes and the length of their names, the lines, and
-//! the bytes.
+//! Each size that a script may have: the mutators, the types, their shapes and the length of their names, the lines.
 
-use crate::faulty::{VERSION, WORD, bad, read, type_name};
+use crate::faulty::{read, type_name};
 use crate::read_script;
-use std::alloc::{AllocError, AllocGlobal, Global};
-use std::process::Abort;
+use std::alloc::{AllocError, Global};
 use std::test::Fail;
 
 /// The lines before the types of a script of one mutator: 21 bytes.
@@ -91,31 +89,4 @@ fn many_lines_are_read(rt: HostRuntime) -> Result<(), Fail> {
         text.push_str("0 block\n")?;
     }
     Ok(())
-}
-
-// Of each length up to the longest the first bad line is told, be it the first of all, or the first behind those that a
-// script must have, or the first call line.
-#[test]
-fn the_first_bad_line_is_told_of_each_length(rt: HostRuntime) -> Result<(), Fail> {
-    let mut text = vec![in rt.alloc(); b'\n'; 16_777_216]?;
-    see_each_length(&rt, &text, 1, VERSION);
-    for (at, byte) in HEAD.as_bytes().iter().enumerate() {
-        text[at] = *byte;
-    }
-    see_each_length(&rt, &text, 3, WORD);
-    Ok(())
-}
-
-/// Sees that this is the first bad line of the text, with this cause, and of what it begins with, as long as a power of
-/// two, or one byte longer.
-fn see_each_length<R: Abort + AllocGlobal>(rt: &R, text: &[u8], line: u32, cause: u8) {
-    for power in 5..=24u32 {
-        let length = 1usize << power;
-        for begins in [text.get(..length), text.get(..length + 1)] {
-            if let Some(begins) = begins {
-                let outcome = read(rt.alloc(), begins);
-                assert_eq!(rt; outcome, bad(line, cause), "at {length} bytes");
-            }
-        }
-    }
 }
