@@ -1,0 +1,47 @@
+-- Changes of a memory: of a word, of an extent, and of a bay.
+use Rattle.std.specs.Prelude.{◌≡◌, ◌≢◌, ◌⊎◌, ℕ, ◌+◌, ◌<◌, ◌≤◌, Bool}
+use Rattle.gc_bay.specs.Bay.{Bay, IsBay}
+use Rattle.gc_gen2.specs.Cells.{IsUsed, IsUsedCell}
+use Rattle.gc_layout.specs.declared.shape.TypeNo.{TypeNo}
+use Rattle.gc_layout.specs.Head.{head_word, fresh_head}
+use Rattle.gc_layout.specs.Places.{cell_address}
+use Rattle.gc_placement.specs.Extents.{LiesIn}
+
+-- a word is stored: all others are as before
+pub record Stores (old new : ℕ → ℕ) (address value : ℕ) : Type 0 where
+  pub here : new address ≡ value
+  pub elsewhere : (a : ℕ) → a ≢ address → new a ≡ old a
+
+-- a fresh object of so many words is written: its header, and behind it zeros; all other words are as before
+pub record WritesFresh (old new : ℕ → ℕ) (address size : ℕ) (ty : TypeNo) (in_page : Bool) : Type 0 where
+  pub header : new address ≡ head_word (fresh_head ty in_page)
+  pub zeros : (a : ℕ) → address < a → a < address + size → new a ≡ 0
+  pub elsewhere : (a : ℕ) → (a < address) ⊎ (address + size ≤ a) → new a ≡ old a
+
+-- a mutator's bay is another one: all others are as before
+pub record ChangesBay (old new : ℕ → Bay) (t : ℕ) (bay : Bay) : Type 0 where
+  pub here : new t ≡ bay
+  pub elsewhere : (u : ℕ) → u ≢ t → new u ≡ old u
+
+-- a bay is whose it was, in the layout in which it was
+pub record IsSameOwners (old new : Bay) : Type 0 where
+  pub bay : IsBay new
+  pub layout : new.layout ≡ old.layout
+  pub mutator : new.mutator ≡ old.mutator
+
+-- a bay's extents are as before: which half is the current one, how much of it is used, and the cells
+pub record HasSameExtents (old new : Bay) : Type 0 where
+  pub owner : IsSameOwners old new
+  pub half : new.half ≡ old.half
+  pub used : new.used ≡ old.used
+  pub pages : new.pages ≡ old.pages
+
+-- a bay's extents are those of before and one more, of so many words at an address
+pub record HasOneMoreExtent (old new : Bay) (address size : ℕ) : Type 0 where
+  pub owner : IsSameOwners old new
+  pub half : new.half ≡ old.half
+  pub used : old.used ≤ new.used
+  pub stays : (class offset : ℕ) → IsUsedCell old.pages class offset → IsUsedCell new.pages class offset
+  pub more : (offset : ℕ) → IsUsed new.pages offset
+      → IsUsed old.pages offset ⊎ (cell_address new.layout new.mutator offset ≡ address)
+  pub lies : LiesIn new address size

@@ -1,0 +1,11 @@
+pub mod Bays
+pub mod Changes
+pub mod Extents
+pub mod Headers
+pub mod Memory
+pub mod Names
+pub mod Objects
+pub mod Placement
+pub mod Registers
+pub mod Remembered
+pub mod Shows
