@@ -105,10 +105,10 @@ free_pages-with_cell pages class offset are is next =
     omega (arith, sum_by-set free_count pages index page free_page there, counts-nothing page class of)
 
 -- a bay with the next cell of a class used, and with the pages counted that were given one
-pub bay-with_cell : (bay : Bay) (class offset given : ℕ) → IsBay bay → IsClass class → next_cell bay.pages class ≡ Some offset
-    → given ≡ bay.given + (free_pages bay.pages - free_pages (with_cell bay.pages class offset))
-    → IsBay (record bay { pages = with_cell bay.pages class offset; given = given })
-bay-with_cell bay class offset given is of next counted =
+pub bay-with_cell : (bay : Bay) (pages : List Page) (class offset given : ℕ) → IsBay bay → IsClass class
+    → next_cell bay.pages class ≡ Some offset → pages ≡ with_cell bay.pages class offset
+    → given ≡ bay.given + (free_pages bay.pages - free_pages pages) → IsBay (record bay { pages = pages; given = given })
+bay-with_cell bay pages class offset given is of next same counted =
     record {
       limits = is.limits;
       mutator = is.mutator;
@@ -117,9 +117,9 @@ bay-with_cell bay class offset given is of next counted =
       used = is.used;
       remembered = is.remembered;
       grey = is.grey;
-      pages = IsWellFormed-with_cell bay.pages class offset is.pages of next;
-      page_count = length-set bay.pages (offset / 1024) _ ∙ is.page_count;
-      given = omega (arith, counted, is.given, free_pages-with_cell bay.pages class offset is.pages of next);
+      pages = rw same (IsWellFormed-with_cell bay.pages class offset is.pages of next);
+      page_count = ap length same ∙ length-set bay.pages (offset / 1024) _ ∙ is.page_count;
+      given = omega (arith, counted, is.given, ap free_pages same, free_pages-with_cell bay.pages class offset is.pages of next);
       batches = is.batches;
       objects = is.objects;
       words = is.words;

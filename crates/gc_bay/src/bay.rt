@@ -64,7 +64,8 @@ impl Bay {
     /// and one for each two words of a half.
     pub fn make(alloc: Global, places: Places, m: u8) -> Result<Bay, NoMemory>
         requires { m < places.mutators }
-        ensures { IfOk result (λ bay. bay ≡ fresh_bay places m) }
+        ensures fresh { IfOk result (λ bay. bay ≡ fresh_bay places m) }
+        ensures bay { IfOk result IsBay }
     {
         let Ok(gen2) = Gen2::make(alloc, places.pages()) else {
             return Err(NoMemory);
@@ -76,7 +77,8 @@ impl Bay {
     fn with_cells(alloc: Global, places: Places, m: u8, gen2: Gen2) -> Result<Bay, AllocError>
         requires mutator { m < places.mutators }
         requires cells { gen2 ≡ replicate places.pages free_page }
-        ensures { IfOk result (λ bay. bay ≡ fresh_bay places m) }
+        ensures fresh { IfOk result (λ bay. bay ≡ fresh_bay places m) }
+        ensures bay { IfOk result IsBay }
     {
         let cells = MOST_CELLS * usize::from(places.pages());
         Ok(Bay {
@@ -123,7 +125,8 @@ impl Bay {
     /// Puts an address, or 0 for nothing, into a register.
     pub fn set_reg(&mut self, r: Reg16, a: u64)
         requires { r < register_count }
-        ensures { self.new ≡ record self.old { registers = slice_set self.old.registers r a } }
+        ensures register { self.new ≡ record self.old { registers = slice_set self.old.registers r a } }
+        ensures bay { IsBay self.new }
     {
         self.registers[usize::from(r)] = a;
     }
@@ -157,12 +160,13 @@ impl Bay {
     pub fn count_kept(&mut self, size: u64)
         requires objects { self.old.tally.objects + 1 < 2 ^ 32 }
         requires words { self.old.tally.words + size < 2 ^ 32 }
-        ensures { self.new ≡ record self.old {
+        ensures tally { self.new ≡ record self.old {
           tally = record {
             objects = self.old.tally.objects + 1;
             words = self.old.tally.words + size;
           };
         } }
+        ensures bay { IsBay self.new }
     {
         self.objects += 1;
         self.words += size;
@@ -170,7 +174,8 @@ impl Bay {
 
     /// Sets the tally to nothing.
     pub fn clear_tally(&mut self)
-        ensures { self.new ≡ record self.old { tally = no_tally } }
+        ensures tally { self.new ≡ record self.old { tally = no_tally } }
+        ensures bay { IsBay self.new }
     {
         self.objects = 0;
         self.words = 0;

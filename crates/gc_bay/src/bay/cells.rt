@@ -28,6 +28,7 @@ impl Bay {
         ensures given { self.new.given + free_pages self.new.pages ≡ self.old.given + free_pages self.old.pages }
         ensures rest { self.new ≡ record self.old { pages = self.new.pages; given = self.new.given } }
         ensures fresh { IfSome result (λ a. IsFreshExtent self.old a size) }
+        ensures bay { IsBay self.new }
     {
         let class = class_of(size);
         let without_class = self.gen2.free_pages();
@@ -55,6 +56,7 @@ impl Bay {
         ensures cell { (offset : ℕ) → cell_address self.old.layout self.old.mutator offset ≡ a
             → GivesCell self.old.pages self.new.pages offset }
         ensures rest { self.new ≡ record self.old { pages = self.new.pages } }
+        ensures bay { IsBay self.new }
     {
         self.gen2
             .give_cell(self.places.cell_offset(self.mutator, a));
@@ -69,7 +71,8 @@ impl Bay {
 
     /// Counts the pages that are given a class from none on again.
     pub fn reset_given(&mut self)
-        ensures { self.new ≡ record self.old { given = 0 } }
+        ensures given { self.new ≡ record self.old { given = 0 } }
+        ensures bay { IsBay self.new }
     {
         self.given = 0;
     }

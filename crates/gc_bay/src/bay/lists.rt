@@ -7,11 +7,14 @@ ghost use Rattle.gc_bay.specs.Room.{grey_room, remembered_room};
 use crate::Bay;
 
 impl Bay {
+    ghost use Rattle.gc_bay.specs.Bay.{IsBay};
+
     /// Puts the address of an old object on the remembered list. It isn't there, and there is room.
     pub fn remember(&mut self, a: u64)
         requires absent { ¬ Contains self.old.remembered a }
         requires room { length self.old.remembered < remembered_room self.old.layout }
-        ensures { self.new ≡ record self.old { remembered = self.old.remembered ++ a ∷ [] } }
+        ensures list { self.new ≡ record self.old { remembered = self.old.remembered ++ a ∷ [] } }
+        ensures bay { IsBay self.new }
     {
         self.remembered.push_reserved(a);
     }
@@ -27,14 +30,16 @@ impl Bay {
     /// Takes the address at an index off the remembered list; the last one comes in its place.
     pub fn drop_remembered(&mut self, i: usize)
         requires { i < length self.old.remembered }
-        ensures { self.new ≡ record self.old { remembered = swap_remove self.old.remembered i 0 } }
+        ensures list { self.new ≡ record self.old { remembered = swap_remove self.old.remembered i 0 } }
+        ensures bay { IsBay self.new }
     {
         self.remembered.swap_remove(i);
     }
 
     /// Takes all addresses off the remembered list.
     pub fn forget_all(&mut self)
-        ensures { self.new ≡ record self.old { remembered = [] } }
+        ensures list { self.new ≡ record self.old { remembered = [] } }
+        ensures bay { IsBay self.new }
     {
         self.remembered.clear();
     }
@@ -43,7 +48,8 @@ impl Bay {
     pub fn grey(&mut self, a: u64)
         requires absent { ¬ Contains self.old.grey a }
         requires room { length self.old.grey < grey_room self.old.layout }
-        ensures { self.new ≡ record self.old { grey = self.old.grey ++ a ∷ [] } }
+        ensures list { self.new ≡ record self.old { grey = self.old.grey ++ a ∷ [] } }
+        ensures bay { IsBay self.new }
     {
         self.grey.push_reserved(a);
     }
@@ -55,6 +61,7 @@ impl Bay {
         ensures unchanged { IfNone result (self.new ≡ self.old) }
         ensures last { IfSome result (λ a. self.old.grey ≡ self.new.grey ++ a ∷ []) }
         ensures rest { self.new ≡ record self.old { grey = self.new.grey } }
+        ensures bay { IsBay self.new }
     {
         self.grey.pop()
     }

@@ -16,6 +16,7 @@ impl Bay {
         ensures unchanged { IfNone result (self.new ≡ self.old) }
         ensures used { OnSome result (self.new ≡ record self.old { used = self.old.used + size }) }
         ensures fresh { IfSome result (λ a. IsFreshExtent self.old a size) }
+        ensures bay { IsBay self.new }
     {
         let a = self.peek_bump(size)?;
         self.used += size;
@@ -52,7 +53,8 @@ impl Bay {
 
     /// Makes the other half the current one, of which nothing is used.
     pub fn flip(&mut self)
-        ensures { self.new ≡ record self.old { half = 1 - self.old.half; used = 0 } }
+        ensures half { self.new ≡ record self.old { half = 1 - self.old.half; used = 0 } }
+        ensures bay { IsBay self.new }
     {
         self.half = 1 - self.half;
         self.start = self.places.half_start(self.mutator, self.half);
