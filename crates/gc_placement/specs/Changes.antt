@@ -6,6 +6,7 @@ use Rattle.gc_layout.specs.declared.shape.TypeNo.{TypeNo}
 use Rattle.gc_layout.specs.Head.{head_word, fresh_head}
 use Rattle.gc_layout.specs.Places.{cell_address}
 use Rattle.gc_placement.specs.Extents.{LiesIn}
+use Rattle.gc_placement.specs.Memory.{Memory}
 
 -- a word is stored: all others are as before
 pub record Stores (old new : ℕ → ℕ) (address value : ℕ) : Type 0 where
@@ -45,3 +46,15 @@ pub record HasOneMoreExtent (old new : Bay) (address size : ℕ) : Type 0 where
   pub more : (offset : ℕ) → IsUsed new.pages offset
       → IsUsed old.pages offset ⊎ (cell_address new.layout new.mutator offset ≡ address)
   pub lies : LiesIn new address size
+
+-- types, layout and bays are as before
+pub record KeepsBays (old new : Memory) : Type 0 where
+  pub types : new.types ≡ old.types
+  pub layout : new.layout ≡ old.layout
+  pub bays : (t : ℕ) → new.bay t ≡ old.bay t
+
+-- types, layout and words are as before
+pub record KeepsWords (old new : Memory) : Type 0 where
+  pub types : new.types ≡ old.types
+  pub layout : new.layout ≡ old.layout
+  pub words : (a : ℕ) → new.word a ≡ old.word a
