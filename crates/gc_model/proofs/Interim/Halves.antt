@@ -6,8 +6,10 @@ use Rattle.std.proofs.lemmas.List.Elements.{filter-append}
 use Rattle.std.proofs.lemmas.List.Filters.{sum_by-filter_both}
 use Rattle.std.proofs.lemmas.List.Sums.{sum_by-cons, sum_by-append, sum_by_push}
 use Rattle.gc_layout.specs.declared.shape.Shape.{Shape}
+use Rattle.gc_layout.specs.declared.shape.TypeNo.{TypeNo}
 use Rattle.gc_layout.specs.Shape.{size_of}
 use Rattle.gc_model.specs.declared.call.Call.{Call}
+use Rattle.gc_model.specs.declared.call.Call.TheVariants.{New}
 use Rattle.gc_model.specs.declared.call.Line.{Line}
 use Rattle.gc_model.specs.Answer.{shape_at}
 use Rattle.gc_model.specs.Graph.{Object, Graph, fresh_object, object_size, is_mutator, is_made_by, made_words}
@@ -141,35 +143,43 @@ pub first-within : (mutators nursery : ℕ) → IsWithinHalves mutators nursery 
 first-within mutators nursery = record { total = omega arith; each = λ t. omega arith }
 
 -- a step within the halves stays there: a new object is one that its maker has room for
-step-within : (types : List Shape) (mutators nursery : ℕ) (t : ℕ) (call : Call) (old new : World) → t < mutators
-    → IsStep types t call (has_room types nursery old t call) old new → IsWithinHalves mutators nursery old.graph
-    → IsWithinHalves mutators nursery new.graph
-step-within types mutators nursery t call old new below (unchanged is) inside =
+pub step-within : (types : List Shape) (mutators nursery : ℕ) (t : ℕ) (call : Call) (room : Bool) (old new : World) → t < mutators
+    → ((into : ℕ) (ty : TypeNo) → call ≡ New into ty → room ≡ true
+    → made_words old.graph t + size_of (shape_at types ty.0) ≤ nursery)
+    → IsStep types t call room old new → IsWithinHalves mutators nursery old.graph → IsWithinHalves mutators nursery new.graph
+step-within types mutators nursery t call room old new below fits (unchanged is) inside =
     subst (λ (world : World). IsWithinHalves mutators nursery world.graph) (sym is) inside
-step-within types mutators nursery t call old new below (mutator_changed mutator is own) inside =
+step-within types mutators nursery t call room old new below fits (mutator_changed mutator is own) inside =
     subst (λ (world : World). IsWithinHalves mutators nursery world.graph) (sym is) inside
-step-within types mutators nursery t call old new below (slot_changed number place value is at_hand has) inside =
+step-within types mutators nursery t call room old new below fits (slot_changed number place value is at_hand has) inside =
     let after = with_slot old number place (named_by old t value) in
     subst (λ (world : World). IsWithinHalves mutators nursery world.graph) (sym is)
     (within-same mutators nursery old.graph after.graph (with_slot-kinds old number place (named_by old t value)) inside)
-step-within types mutators nursery t call old new below (number_changed number place value is at_hand has) inside =
+step-within types mutators nursery t call room old new below fits (number_changed number place value is at_hand has) inside =
     let after = with_number old number place value in
     subst (λ (world : World). IsWithinHalves mutators nursery world.graph) (sym is)
     (within-same mutators nursery old.graph after.graph (with_number-kinds old number place value) inside)
-step-within types mutators nursery t call old new below (object_added into ty is call_is room_is) inside =
+step-within types mutators nursery t call room old new below fits (object_added into ty is call_is room_is) inside =
     let shape = shape_at types ty.0 in
-    let room : nat_le (made_words old.graph t + size_of shape) nursery ≡ true =
-    sym (ap (has_room types nursery old t) call_is) ∙ room_is in
-    let fits = leb-true (made_words old.graph t + size_of shape) nursery room in
     subst (λ (world : World). IsWithinHalves mutators nursery world.graph) (sym is)
-    (within-new mutators nursery old.graph ty.0 t shape below (omega (arith, fresh_object-size ty.0 (Some t) shape, fits)) inside)
+    (within-new mutators nursery old.graph ty.0 t shape below
+    (omega (arith, fresh_object-size ty.0 (Some t) shape, fits into ty call_is room_is)) inside)
+
+-- where there is room the words fit the half
+pub room-fits : (types : List Shape) (nursery : ℕ) (world : World) (t : ℕ) (call : Call) (into : ℕ) (ty : TypeNo) → call ≡ New into ty
+    → has_room types nursery world t call ≡ true → made_words world.graph t + size_of (shape_at types ty.0) ≤ nursery
+room-fits types nursery world t call into ty call_is room =
+    leb-true (made_words world.graph t + size_of (shape_at types ty.0)) nursery
+    (sym (ap (has_room types nursery world t) call_is) ∙ room)
 
 -- each answer to a line keeps within the halves
 pub answer_to-within : (types : List Shape) (mutators nursery : ℕ) (world : World) (line : Line) → line.mutator < mutators
     → IsWithinHalves mutators nursery world.graph → IsWithinHalves mutators nursery (answer_to types nursery world line).world.graph
 answer_to-within types mutators nursery world line below inside =
     let room = has_room types nursery world line.mutator line.call in
-    step-within types mutators nursery line.mutator line.call world _ below (answer-step types line.mutator line.call room world) inside
+    step-within types mutators nursery line.mutator line.call room world _ below
+    (λ into ty is fits. room-fits types nursery world line.mutator line.call into ty is fits)
+    (answer-step types line.mutator line.call room world) inside
 
 -- numbering objects changes no sum of their sizes
 numbered-sum : (graph : Graph) (first : ℕ)

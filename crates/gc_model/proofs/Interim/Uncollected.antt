@@ -1,6 +1,6 @@
 -- On a heap that never collects: the history of a script's lines fits the script, and is legal.
 use Rattle.std.proofs.Common.{◌≡◌, ◌∙◌, ℕ, ◌+◌, ◌≤◌, ◌<◌, Bool, true, false, List, [], ◌∷◌, ◌++◌, All, length, filter, take, append_assoc, refl, ap, sym, subst, arith, nat_le, leb-true, leb-false}
-use Rattle.std.proofs.lemmas.Bool.{cond_both}
+use Rattle.std.proofs.lemmas.Bool.{cond_both, false≢true}
 use Rattle.std.proofs.lemmas.List.{append-nil}
 use Rattle.std.proofs.lemmas.List.Elements.{All-head, All-tail}
 use Rattle.gc_layout.specs.declared.shape.Shape.{Shape}
@@ -10,18 +10,19 @@ use Rattle.gc_model.specs.declared.call.Call.{Call}
 use Rattle.gc_model.specs.declared.call.Call.TheVariants.{New, Collect}
 use Rattle.gc_model.specs.declared.call.Line.{Line}
 use Rattle.gc_model.specs.declared.entry.Entry.{Entry}
-use Rattle.gc_model.specs.declared.entry.Entry.TheVariants.{Made}
+use Rattle.gc_model.specs.declared.entry.Entry.TheVariants.{Made, Run}
 use Rattle.gc_model.specs.declared.reply.Reply.{Reply}
 use Rattle.gc_model.specs.declared.reply.Reply.TheVariants.{Done, Full, Blocked}
 use Rattle.gc_model.specs.Answer.{IsFit, Answer, blocked_refusal, effect, keeps, does, shape_at, unless_refused, with_new}
 use Rattle.gc_model.specs.Built.{IsBuilt}
 use Rattle.gc_model.specs.Graph.{made_words}
-use Rattle.gc_model.specs.History.{Configuration, History, FitsScript, ends_of, is_collection, lines_in, replies_by_line, replies_in, world_after}
+use Rattle.gc_model.specs.History.{Configuration, EachEntry, History, FitsScript, is_done, ends_of, is_collection, lines_in, replies_by_line, replies_in, world_after}
 use Rattle.gc_model.specs.Interim.{FullAboveHalf, answer_to, has_room, history_of, replies_of}
-use Rattle.gc_model.specs.Legal.{IsLegal, MayFollow, KeepsSize, CollectFollowsFull}
+use Rattle.gc_model.specs.Legal.{IsLegal, MayFollow, KeepsSize, CollectFollowsFull, ReplyIsTheGraphs}
 use Rattle.gc_model.specs.World.{World, first_world, is_blocked}
-use Rattle.gc_model.proofs.Histories.{legal-none, legal-push, world_after-made}
-use Rattle.gc_model.proofs.Interim.Halves.{IsWithinHalves, answer_to-within, first-within, new-fits}
+use Rattle.gc_model.proofs.Histories.{legal-none, legal-push, world_after-made, world_after-more}
+use Rattle.gc_model.proofs.Interim.Halves.{IsWithinHalves, answer_to-within, first-within, new-fits, step-within}
+use Rattle.gc_model.proofs.Steps.{answer-step}
 use Rattle.gc_model.proofs.Scripts.{fits-in_order, replies_by_line-front}
 
 -- the calls stand in the order of the lines
@@ -63,15 +64,15 @@ uncollected-replies types nursery world lines more =
     ∙ first-replies types nursery world lines more
 
 -- the answer to a line after a history, on a heap that never collects
-abbrev answer_after : Configuration → History → Line → Answer
+abbrev pub answer_after : Configuration → History → Line → Answer
 answer_after heap before line = answer_to heap.types heap.nursery (world_after heap before) line
 
 -- the entry of a line after a history
-abbrev entry_after : Configuration → History → Line → Entry
+abbrev pub entry_after : Configuration → History → Line → Entry
 entry_after heap before line = Made line.mutator line.call (answer_after heap before line).reply
 
 -- the world after the entry of a line is that of the answer
-world-more : (heap : Configuration) (before : History) (line : Line)
+pub world-more : (heap : Configuration) (before : History) (line : Line)
     → world_after heap (before ++ entry_after heap before line ∷ []) ≡ (answer_after heap before line).world
 world-more heap before line =
     world_after-made heap before line.mutator line.call (has_room heap.types heap.nursery (world_after heap before) line.mutator line.call)
@@ -136,6 +137,41 @@ line-follows heap some_mutator some_page before line inside fits built = record 
   collect = collect-meets heap before line.mutator line.call _ built;
   reports = tt;
 }
+
+-- a new object that is done had room
+done-fits : (heap : Configuration) (before : History) (t into : ℕ) (ty : TypeNo) (reply : Reply)
+    → FullAboveHalf heap before (Made t (New into ty) reply) → is_done reply ≡ true
+    → made_words (world_after heap before).graph t + size_of (shape_at heap.types ty.0) ≤ heap.nursery
+done-fits heap before t into ty Done full done = full
+done-fits heap before t into ty reply full done = absurd (false≢true done)
+
+-- an entry whose reply is the graph's keeps within the halves
+follows-within : (heap : Configuration) (before : History) (entry : Entry) → ReplyIsTheGraphs heap before entry
+    → FullAboveHalf heap before entry → IsWithin heap before → IsWithin heap (before ++ entry ∷ [])
+follows-within heap before (Run report) graphs full inside =
+    subst (λ (world : World). IsWithinHalves heap.mutators heap.nursery world.graph) (sym (world_after-more heap before (Run report))) inside
+follows-within heap before (Made t call reply) graphs full inside =
+    let world = world_after heap before in
+    subst (λ (after : World). IsWithinHalves heap.mutators heap.nursery after.graph) (sym (world_after-more heap before (Made t call reply)))
+    (step-within heap.types heap.mutators heap.nursery t call (is_done reply) world _ graphs.0.0
+    (λ into ty is done. done-fits heap before t into ty reply
+    (subst (λ (each : Call). FullAboveHalf heap before (Made t each reply)) is full) done)
+    (answer-step heap.types t call (is_done reply) world) inside)
+
+-- so entries that follow keep within the halves
+within-from : (heap : Configuration) (before history : History) → EachEntry (ReplyIsTheGraphs heap) before history
+    → EachEntry (FullAboveHalf heap) before history → IsWithin heap before → IsWithin heap (before ++ history)
+within-from heap before [] graphs full inside = subst (IsWithin heap) (sym (append-nil before)) inside
+within-from heap before (entry ∷ history) graphs full inside =
+    subst (IsWithin heap) (append_assoc before (entry ∷ []) history)
+    (within-from heap (before ++ entry ∷ []) history graphs.1 full.1 (follows-within heap before entry graphs.0 full.0 inside))
+
+-- the entry of a fit line may follow a legal history
+pub call-follows : (heap : Configuration) → 1 ≤ heap.mutators → 1 ≤ heap.pages → (before : History) (line : Line) → IsLegal heap before
+    → Fits heap line → IsBuilt line.call → MayFollow heap before (entry_after heap before line)
+call-follows heap some_mutator some_page before line legal fits built =
+    line-follows heap some_mutator some_page before line
+    (within-from heap [] before legal.replies legal.full (first-within heap.mutators heap.nursery)) fits built
 
 -- the entries of fit lines behind a legal history make a legal one
 lines-legal : (heap : Configuration) → 1 ≤ heap.mutators → 1 ≤ heap.pages → (lines : List Line) (before : History) → IsLegal heap before

@@ -1,0 +1,5 @@
+pub mod Fields
+pub mod Interim
+pub mod Kept
+pub mod Reports
+pub mod Stands

@@ -1,0 +1,129 @@
+//! The memory of a heap of one thread, and how a call is made on it. Word 0 is never used, so that an address is an
+//! index.
+ghost use Rattle.std.specs.Prelude.{◌≡◌, ◌≢◌, ◌<◌, ◌+◌, ℕ, false, length, slice_index, slice_index_or};
+ghost use Rattle.gc_layout.specs.Places.{word_count};
+ghost use Rattle.gc_model.specs.Answer.{Suits, effect, shape_at};
+ghost use Rattle.gc_model.specs.Built.{IsBuilt};
+ghost use Rattle.gc_model.specs.Graph.{object_at};
+ghost use Rattle.gc_model.specs.Interim.{answer_to, has_room};
+ghost use Rattle.gc_model.specs.World.{World};
+ghost use Rattle.gc_placement.specs.Changes.{KeepsBays, Stores};
+ghost use Rattle.gc_placement.specs.Placement.{Placement};
+ghost use Rattle.gc_solo.specs.Kept.{Kept, kept_of, memory_of, most_mutators};
+ghost use Rattle.gc_solo.specs.Stands.{IsAnswered, IsReadyFor, IsReadyIn, Stays};
+
+mod allocation;
+mod fields;
+mod registers;
+mod setup;
+
+use gc_bay::Bay;
+use gc_layout::{Head, Places, Shape, Types};
+use gc_model::{Call, Reply, RunReport};
+
+/// The most mutators.
+pub(crate) const MOST_MUTATORS: usize = 8;
+
+/// The memory of a heap of one thread, who is blocked, and the reports of its collections.
+#[derive(Debug, Drop)]
+pub(crate) struct Heap {
+    pub(crate) types: Types,
+    pub(crate) places: Places,
+    pub(crate) words: Vec<u64>,
+    pub(crate) bays: Vec<Bay>,
+    pub(crate) blocked: [bool; MOST_MUTATORS],
+    pub(crate) reports: Vec<RunReport>,
+    /// For how many more reports there is room.
+    pub(crate) room: u32,
+}
+
+impl Heap {
+    /// Makes a mutator's call, which isn't a Collect: refused where being blocked, or not being so, stands
+    /// against it.
+    pub(crate) fn call(&mut self, t: u8, call: &Call) -> Reply
+        requires ready { IsReadyIn (kept_of self.old) t }
+        requires suits { Suits (length self.old.types) call.now }
+        requires built { IsBuilt call.now }
+        ensures stays { Stays (kept_of self.old) (kept_of self.new) }
+        ensures answered { (placement : Placement) (world : World) → IsReadyFor (kept_of self.old) placement world t
+            → IsAnswered (kept_of self.new) result (answer_to self.old.types self.old.places.nursery world
+            (record { mutator = t; call = call.now })) }
+    {
+        match call.refusal(self.is_blocked(t)) {
+            Some(refusal) => refusal,
+            None => self.make_call(t, call),
+        }
+    }
+
+    /// Makes a call that being blocked doesn't stand against.
+    fn make_call(&mut self, t: u8, call: &Call) -> Reply
+        requires ready { IsReadyIn (kept_of self.old) t }
+        requires suits { Suits (length self.old.types) call.now }
+        requires built { IsBuilt call.now }
+        ensures stays { Stays (kept_of self.old) (kept_of self.new) }
+        ensures answered { (placement : Placement) (world : World) → IsReadyFor (kept_of self.old) placement world t
+            → IsAnswered (kept_of self.new) result (effect self.old.types world t
+            (has_room self.old.types self.old.places.nursery world t call.now) call.now) }
+    {
+        match *call {
+            Call::New { into, ty } => self.make_object(t, into, ty),
+            Call::Get { into, base, place } => self.get(t, into, base, place),
+            Call::Put { base, place, value } => self.put(t, base, place, value),
+            Call::Ask { base, place } => self.ask(t, base, place),
+            Call::Set {
+                base,
+                place,
+                number,
+            } => self.set(t, base, place, number),
+            Call::SwapIf {
+                base,
+                place,
+                expected,
+                replacement,
+            } => self.swap_if(t, base, place, expected, replacement),
+            Call::Same { left, right } => self.same(t, left, right),
+            Call::CopyReg { into, source } => self.copy(t, into, source),
+            Call::ClearReg { reg } => self.clear(t, reg),
+            Call::Share { place, value } => self.share(t, place, value),
+            Call::Take { into, place } => self.take(t, into, place),
+            Call::Await { into, place } => self.take(t, into, place),
+            Call::Safepoint => Reply::Done,
+            Call::Block => self.set_blocked(t, true),
+            Call::Unblock => self.set_blocked(t, false),
+            Call::End => self.end(t),
+            Call::Collect => unreachable!(),
+        }
+    }
+
+    /// The shape of the object whose header has this address.
+    fn shape_at(&self, address: u64) -> Shape
+        requires placed { (t : ℕ) × (placement : Placement) × (world : World) × (number : ℕ)
+            × IsReadyFor (kept_of self.now) placement world t × (placement number ≡ Some address) }
+        ensures { (t : ℕ) (placement : Placement) (world : World) (number : ℕ)
+            → IsReadyFor (kept_of self.now) placement world t → placement number ≡ Some address
+            → result ≡ shape_at self.now.types (object_at world.graph number).ty }
+    {
+        let head = Head::of_word(self.word(address)).unwrap();
+        self.types.shape(head.ty).unwrap()
+    }
+
+    /// The word of this address.
+    fn word(&self, address: u64) -> u64
+        requires { address < length self.now.words.items }
+        ensures { result ≡ slice_index self.now.words.items address }
+    {
+        self.words[address as usize]
+    }
+
+    /// Stores the word of this address.
+    fn store(&mut self, address: u64, word: u64)
+        requires { address < length self.old.words.items }
+        ensures stays { Stays (kept_of self.old) (kept_of self.new) }
+        ensures stored { Stores (memory_of (kept_of self.old)).word (memory_of (kept_of self.new)).word address word }
+        ensures bays { KeepsBays (memory_of (kept_of self.old)) (memory_of (kept_of self.new)) }
+        ensures count { length self.new.words.items ≡ length self.old.words.items }
+        ensures blocked { self.new.blocked ≡ self.old.blocked }
+    {
+        self.words[address as usize] = word;
+    }
+}

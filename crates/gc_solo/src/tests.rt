@@ -1,0 +1,1 @@
+//! A heap of one thread by its calls.
