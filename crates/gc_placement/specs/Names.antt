@@ -1,5 +1,5 @@
 -- What a placement covers.
-use Rattle.std.specs.Prelude.{◌≡◌, ℕ, Bool, true}
+use Rattle.std.specs.Prelude.{◌≡◌, ℕ, true}
 use Rattle.gc_model.specs.Reach.{is_reachable}
 use Rattle.gc_model.specs.World.{World, named_by, slot_at}
 use Rattle.gc_placement.specs.Placement.{Placement, IsPlaced, IsNamePlaced}
