@@ -1,0 +1,5 @@
+pub mod Bays
+pub mod Extents
+pub mod Graphs
+pub mod Placement
+pub mod Regions
