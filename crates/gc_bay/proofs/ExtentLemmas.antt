@@ -15,13 +15,13 @@ use Rattle.gc_bay.specs.Bay.{Bay, IsBay}
 use Rattle.gc_bay.specs.Extent.{IsUsedInHalf, IsUsedInCells, IsFreshExtent, next_in_half}
 
 -- a word of a half, or its end, lies before the pages
-half-ends : (layout : Layout) (m half used : ℕ) → half < 2 → used ≤ layout.nursery
+pub half-ends : (layout : Layout) (m half used : ℕ) → half < 2 → used ≤ layout.nursery
     → address_of layout m (Half half used) ≤ address_of layout m (InPage 0 0)
 half-ends layout m half used below within =
     let first : half ≤ 1 = omega arith in omega (arith, mul-le-mul_right layout.nursery first)
 
 -- the pages end with the region
-pages-end : (layout : Layout) (m offset class : ℕ) → offset + class ≤ 1024 * layout.pages
+pub pages-end : (layout : Layout) (m offset class : ℕ) → offset + class ≤ 1024 * layout.pages
     → cell_address layout m offset + class ≤ region_start layout (m + 1)
 pages-end layout m offset class inside = omega arith
 

@@ -1,6 +1,10 @@
+pub mod Bays
+pub mod Extents
+pub mod Graphs
 pub mod Lists
 pub mod Names
 pub mod Placement
+pub mod Regions
 pub mod Registers
 pub mod Remembered
 pub mod Worlds
