@@ -1,0 +1,4 @@
+pub mod Headers
+pub mod Objects
+pub mod OldInPages
+pub mod Placement
