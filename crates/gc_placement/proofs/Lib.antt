@@ -1,8 +1,11 @@
 pub mod Bays
 pub mod Extents
 pub mod Graphs
+pub mod Headers
 pub mod Lists
 pub mod Names
+pub mod Objects
+pub mod OldInPages
 pub mod Placement
 pub mod Regions
 pub mod Registers
