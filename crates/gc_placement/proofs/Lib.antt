@@ -10,4 +10,5 @@ pub mod Placement
 pub mod Regions
 pub mod Registers
 pub mod Remembered
+pub mod Shows
 pub mod Worlds

@@ -1,5 +1,5 @@
 -- How objects stand in the words, and what a change of the words or of the placement leaves of it.
-use Rattle.std.proofs.Common.{◌≡◌, ◌⊎◌, ◌∙◌, ℕ, ◌+◌, ◌<◌, ◌≤◌, Bool, true, List, [], ◌∷◌, ◌++◌, length, Option, None, Some, inl, inr, refl, replicate, ap, sym, subst, arith, slice_index, slice_index_or, slice_set, length-set}
+use Rattle.std.proofs.Common.{◌≢◌, ◌≡◌, ◌⊎◌, ◌∙◌, ℕ, ◌+◌, ◌<◌, ◌≤◌, Bool, true, List, [], ◌∷◌, ◌++◌, length, Option, None, Some, inl, inr, refl, replicate, ap, sym, subst, arith, slice_index, slice_index_or, slice_set, length-set}
 use Rattle.std.proofs.lemmas.Bool.{cases_eq}
 use Rattle.std.proofs.lemmas.List.{get_or-replicate, get_or-set_same, get_or-set_other, get_or_append_left, get_or_push, length-replicate}
 use Rattle.gc_layout.specs.declared.shape.Shape.{Shape}

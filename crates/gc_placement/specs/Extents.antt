@@ -6,7 +6,7 @@ use Rattle.gc_gen2.specs.Class.{class_of}
 use Rattle.gc_gen2.specs.Page.{Page}
 use Rattle.gc_layout.specs.Places.{Layout, IsInPages, address_of, cell_address}
 use Rattle.gc_layout.specs.declared.places.Part.TheVariants.{Half}
-use Rattle.gc_model.specs.Graph.{Graph, Object, object_at, object_size}
+use Rattle.gc_model.specs.Graph.{Graph, object_at, object_size}
 use Rattle.gc_placement.specs.Headers.{head_of}
 use Rattle.gc_placement.specs.Placement.{Placement, IsWordOf}
 
