@@ -1,9 +1,10 @@
 //! How a heap is made: all memory is taken here, and the common object is made by nobody, in the first cell of page 0 of
 //! mutator 0.
-ghost use Rattle.std.specs.Prelude.{◌≡◌, [], IfOk};
+ghost use Rattle.std.specs.Prelude.{◌≡◌, ◌<◌, ℕ, [], length, IfOk};
+ghost use Rattle.gc_bay.specs.Bay.{fresh_bay};
 ghost use Rattle.gc_model.specs.World.{first_world};
 ghost use Rattle.gc_placement.specs.Placement.{Placement};
-ghost use Rattle.gc_solo.specs.Kept.{ShowsBy, kept_of};
+ghost use Rattle.gc_solo.specs.Kept.{ShowsBy, bay_at, kept_of};
 
 use crate::heap::{Heap, MOST_MUTATORS};
 use gc_bay::Bay;
@@ -44,12 +45,37 @@ impl Heap {
     }
 
     /// Makes the common object. Its page doesn't count as given.
-    fn make_common(&mut self)
-    {
+    fn make_common(&mut self) {
         let size = Shape::COMMON.size();
         let bay = &mut self.bays[0];
         let address = bay.cell(size).unwrap();
         bay.reset_given();
         self.write_fresh(address, size, TypeNo(0), true);
     }
+}
+
+/// A list of the same types.
+fn copy_types(alloc: Global, types: &Types) -> Result<Types, NoMemory>
+    ensures { IfOk result (λ copy. copy ≡ types.now) }
+{
+    let mut copy = Types::make(alloc)?;
+    for shape in types.as_slice().iter().skip(1) {
+        // Each type of a list fits a list that has room for as many.
+        let _added = copy.add(*shape);
+    }
+    Ok(copy)
+}
+
+/// A bay for each mutator.
+fn fresh_bays(alloc: Global, places: Places) -> Result<Vec<Bay>, NoMemory>
+    ensures bays { IfOk result (λ bays. length bays.items ≡ places.mutators) }
+    ensures each { IfOk result (λ bays. (t : ℕ) → t < places.mutators → bay_at bays.items t ≡ fresh_bay places t) }
+{
+    let Ok(mut bays) = Vec::with_capacity(alloc, usize::from(places.mutators())) else {
+        return Err(NoMemory);
+    };
+    for mutator in 0..places.mutators() {
+        bays.push_reserved(Bay::make(alloc, places, mutator)?);
+    }
+    Ok(bays)
 }
