@@ -1,5 +1,5 @@
 -- On a heap that never collects no mutator makes more than a half, so all objects together fit the heap.
-use Rattle.std.proofs.Common.{◌≡◌, ◌∙◌, ℕ, zero, suc, ◌+◌, ◌*◌, ◌<◌, ◌≤◌, Bool, true, false, Some, List, [], ◌∷◌, ◌++◌, if◌then◌else◌, not, ◌==◌, nat_le, filter, sum_by, inl, inr, refl, ap, sym, subst, arith, eq-eqb, eqb-true, leb-true, suc-mul, mul-add, mul-le-mul}
+use Rattle.std.proofs.Common.{◌≡◌, ◌∙◌, ℕ, zero, suc, ◌+◌, ◌*◌, ◌<◌, ◌≤◌, Bool, true, false, Some, List, [], ◌∷◌, ◌++◌, if◌then◌else◌, not, ◌==◌, filter, sum_by, inl, inr, refl, ap, sym, subst, arith, eq-eqb, eqb-true, leb-true, suc-mul, mul-add, mul-le-mul}
 use Rattle.std.specs.List.{enumerate_from}
 use Rattle.std.proofs.lemmas.Bool.{cases_eq, cond-true, cond_both}
 use Rattle.std.proofs.lemmas.List.Elements.{filter-append}
