@@ -1,3 +1,5 @@
+pub mod AllowedLemmas
+pub mod CommandLemmas
 pub mod HeapBays
 pub mod HeapFields
 pub mod HeapNames

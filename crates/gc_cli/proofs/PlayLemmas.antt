@@ -5,6 +5,7 @@ use Rattle.std.proofs.lemmas.List.Elements.{All-append}
 use Rattle.std.proofs.lemmas.List.Sums.{fold-append}
 use Rattle.gc_layout.specs.declared.shape.Shape.{Shape}
 use Rattle.gc_model.specs.declared.call.Line.{Line}
+use Rattle.gc_model.specs.declared.entry.RunReport.{RunReport}
 use Rattle.gc_model.specs.declared.reply.Reply.{Reply}
 use Rattle.gc_model.proofs.Interim.Uncollected.{uncollected-legal, uncollected-fits, uncollected-in_order, uncollected-replies}
 use Rattle.gc_model.proofs.Scripts.{ends-fit, ends-built}
@@ -18,7 +19,7 @@ use Rattle.gc_cli.specs.declared.opts.Opts.{Opts}
 use Rattle.gc_cli.specs.declared.heap.Heap.{Heap}
 use Rattle.gc_cli.specs.Heap.{IsAnswered, ShowsWorld}
 use Rattle.gc_cli.specs.Played.{IsHistoryOf, heap_for}
-use Rattle.gc_cli.specs.Text.{reply_line, lines_text}
+use Rattle.gc_cli.specs.Text.{reply_line, lines_text, report_line, reports_from, reports_of}
 
 -- below the length there is an element
 pub slice_get-below : {X : Type 0} (xs : List X) (i : ℕ) → i < length xs → (x : X) × (slice_get xs i ≡ Some x)
@@ -68,11 +69,19 @@ pub replies_of-next : (types : List Shape) (nursery : ℕ) (world : World) (line
 replies_of-next types nursery world lines i line h =
     rw (add-one i, take-at lines i line h) (replies_of-append types nursery world (take i lines) (line ∷ []))
 
--- the history of a script's lines and the Ends after them is legal, fits the script, and has these replies
+-- in the history of lines nothing is collected, so it has no report
+uncollected-reports : (types : List Shape) (nursery : ℕ) (world : World) (lines : List Line)
+    → reports_of (history_of types nursery world lines) ≡ []
+uncollected-reports types nursery world [] = refl
+uncollected-reports types nursery world (line ∷ lines) =
+    uncollected-reports types nursery (answer_to types nursery world line).world lines
+
+-- the history of a script's lines and the Ends after them is legal, fits the script, and has these replies and no report
 pub uncollected-played : (opts : Opts) (script : Script) (replies : List Reply) → 1 ≤ script.preamble.mutators → 1 ≤ opts.pages
     → All (IsFitLine script.preamble) script.lines → All (λ line. IsBuilt line.call) script.lines
     → replies ≡ replies_of script.preamble.types opts.nursery (first_world script.preamble.mutators) script.lines
     → (history : History) × IsHistoryOf opts script history × (replies ≡ replies_by_line history [] script.lines)
+    × (reports_of history ≡ [])
 uncollected-played opts script replies some pages fit built is =
     let types = script.preamble.types in
     let mutators = script.preamble.mutators in
@@ -87,6 +96,7 @@ uncollected-played opts script replies some pages fit built is =
         in_order = uncollected-in_order types opts.nursery first lines;
       },
       is ∙ sym (uncollected-replies types opts.nursery first script.lines (ends_of mutators)),
+      uncollected-reports types opts.nursery first lines,
     )
 
 -- an answer by the same types and the same half is the same
@@ -123,3 +133,8 @@ pub lines_text-next : (script : Script) (replies : List Reply) (i : ℕ) (reply 
 lines_text-next script replies i reply h =
     rw (drop-at replies i reply h, add-one i) (ap (λ (n : ℕ). reply_line (number_of_line script i) reply ++ lines_text n
     (drop (suc i) replies)) (omega arith))
+
+-- the text of the reports that are left begins with the line of the next
+pub reports_from-next : (number : ℕ) (reports : List RunReport) (i : ℕ) (report : RunReport) → slice_get reports i ≡ Some report
+    → reports_from number (drop i reports) ≡ report_line number report ++ reports_from (number + 1) (drop (i + 1) reports)
+reports_from-next number reports i report h = rw (drop-at reports i report h, add-one i) refl

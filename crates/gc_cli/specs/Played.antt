@@ -1,5 +1,5 @@
 -- What a run of the program read, played and printed.
-use Rattle.std.specs.Prelude.{◌≡◌, ℕ, ◌+◌, ◌<◌, ◌≤◌, List, [], ◌++◌, length, Option, IfSome, false}
+use Rattle.std.specs.Prelude.{◌≡◌, ℕ, ◌+◌, ◌<◌, ◌≤◌, List, [], ◌++◌, length, Option, IfSome}
 use Rattle.gc_io.specs.Faults.{HasRisen}
 use Rattle.gc_io.specs.Streams.{GivesUp, Appends, AppendsPrefix}
 use Rattle.gc_layout.specs.Sizes.{largest_size}
@@ -8,6 +8,8 @@ use Rattle.gc_model.specs.Legal.{IsLegal}
 use Rattle.gc_script.specs.Grammar.{IsScript, IsFirstFault}
 use Rattle.gc_script.specs.Script.{Script}
 use Rattle.gc_script.specs.Text.{most_bytes}
+use Rattle.gc_cli.specs.declared.command.Request.{Request}
+use Rattle.gc_cli.specs.declared.command.Request.TheVariants.{Play}
 use Rattle.gc_cli.specs.declared.opts.Opts.{Opts}
 use Rattle.gc_cli.specs.Text.{text_of}
 
@@ -35,13 +37,13 @@ pub record IsHistoryOf (opts : Opts) (script : Script) (history : History) : Typ
   pub in_order : lines_in history ≡ script.lines ++ ends_of script.preamble.mutators
 
 -- the source was read to its end, its bytes are this script, it was played by this history, and the sink got the
--- replies of the history by line number
+-- text of it: the replies by line number and, where the options ask for them, the reports behind them
 pub record Plays (opts : Opts) (rest_old rest_new written_old written_new : Option (List ℕ))
     (bytes : List ℕ) (script : Script) (history : History) : Type 0 where
   pub read : IsRead rest_old rest_new bytes
   pub script_is : IsScript bytes script
   pub played : IsHistoryOf opts script history
-  pub printed : Appends written_old written_new (text_of script history)
+  pub printed : Appends written_old written_new (text_of opts script history)
 
 -- as before, but the sink got only the first bytes of the text, maybe none
 pub record PlaysInPart (opts : Opts) (rest_old rest_new written_old written_new : Option (List ℕ))
@@ -49,7 +51,7 @@ pub record PlaysInPart (opts : Opts) (rest_old rest_new written_old written_new 
   pub read : IsRead rest_old rest_new bytes
   pub script_is : IsScript bytes script
   pub played : IsHistoryOf opts script history
-  pub printed : AppendsPrefix written_old written_new (text_of script history)
+  pub printed : AppendsPrefix written_old written_new (text_of opts script history)
 
 -- the source was read to its end, and its bytes are no script: its first fault has this line and this cause
 pub record IsNoScript (old new : Option (List ℕ)) (bytes : List ℕ) (line cause : ℕ) : Type 0 where
@@ -82,6 +84,6 @@ pub record AreAllowed (opts : Opts) : Type 0 where
   pub some_pages : 1 ≤ opts.pages
   pub most_pages : opts.pages ≤ 128
 
--- the options where none is given
-abbrev pub default_opts : Opts
-default_opts = record { nursery = 4096; pages = 8; reports = false; summary = false }
+-- what is asked for is within the limits
+abbrev pub IsAllowed : Request → Type 0
+IsAllowed (Play opts) = AreAllowed opts

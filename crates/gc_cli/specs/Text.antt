@@ -1,9 +1,15 @@
 -- The printed text.
-use Rattle.std.specs.Prelude.{ℕ, ◌+◌, List, [], ◌∷◌, ◌++◌, codes, decimal}
+use Rattle.std.specs.Prelude.{ℕ, ◌+◌, List, [], ◌∷◌, ◌++◌, Option, None, Some, if◌then◌else◌, codes, decimal}
+use Rattle.std.specs.List.{filter_map}
+use Rattle.gc_model.specs.declared.entry.Entry.{Entry}
+use Rattle.gc_model.specs.declared.entry.Entry.TheVariants.{Made, Run}
+use Rattle.gc_model.specs.declared.entry.RunReport.{RunReport}
+use Rattle.gc_model.specs.declared.entry.RunReport.TheVariants as report
 use Rattle.gc_model.specs.declared.reply.Reply.{Reply}
 use Rattle.gc_model.specs.declared.reply.Reply.TheVariants.{Done, Full, Number, Yes, No, Found, Nil, NilBase, Range, Blocked, NotBlocked}
 use Rattle.gc_model.specs.History.{History, replies_by_line}
 use Rattle.gc_script.specs.Script.{Script, number_of_line}
+use Rattle.gc_cli.specs.declared.opts.Opts.{Opts}
 
 -- the text of a reply
 abbrev pub reply_text : Reply → List ℕ
@@ -32,6 +38,37 @@ lines_text number (reply ∷ replies) = reply_line number reply ++ lines_text (n
 abbrev pub replies_text : Script → List Reply → List ℕ
 replies_text script replies = lines_text (number_of_line script 0) replies
 
--- the replies to a script's lines in a history, by line number
-abbrev pub text_of : Script → History → List ℕ
-text_of script history = replies_text script (replies_by_line history [] script.lines)
+-- the text of a collection's report
+abbrev pub report_text : RunReport → List ℕ
+report_text report.Minor = codes "minor"
+report_text (report.Full objects words) = codes "full objects " ++ decimal objects ++ codes " words " ++ decimal words
+
+-- a line of the reports: `run`, the collection's number, the report's text
+abbrev pub report_line : ℕ → RunReport → List ℕ
+report_line number report = codes "run " ++ decimal number ++ codes " " ++ report_text report ++ codes "\n"
+
+-- the reports of the collections from this number on
+abbrev pub reports_from : ℕ → List RunReport → List ℕ
+reports_from number [] = []
+reports_from number (report ∷ reports) = report_line number report ++ reports_from (number + 1) reports
+
+-- the reports of collections, which are counted from 1
+abbrev pub reports_text : List RunReport → List ℕ
+reports_text reports = reports_from 1 reports
+
+-- the report of an entry, where it is a collection
+abbrev pub made_report : Entry → Option RunReport
+made_report (Made mutator call reply) = None
+made_report (Run report) = Some report
+
+-- the reports of a history's collections, in their order
+abbrev pub reports_of : History → List RunReport
+reports_of history = filter_map made_report history
+
+-- the printed text of replies and reports, by the options: the reports stand behind the replies, where they are asked for
+abbrev pub printed_text : Opts → Script → List Reply → List RunReport → List ℕ
+printed_text opts script replies reports = replies_text script replies ++ (if opts.reports then reports_text reports else [])
+
+-- the printed text of a script and its history: the replies to its lines and the reports of the collections
+abbrev pub text_of : Opts → Script → History → List ℕ
+text_of opts script history = printed_text opts script (replies_by_line history [] script.lines) (reports_of history)

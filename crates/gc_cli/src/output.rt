@@ -1,20 +1,46 @@
-//! Writing the replies, one piece a line.
+//! Writing the replies, and behind them the reports where they are asked for, one piece a line.
 
-ghost use Rattle.std.specs.Prelude.{◌≡◌, ◌<◌, ◌≤◌, length, slice_get, Some};
+ghost use Rattle.std.specs.Prelude.{◌≡◌, ◌+◌, ◌<◌, ◌≤◌, length, slice_get, Some};
 ghost use Rattle.gc_io.specs.Faults.{HasRisen};
 ghost use Rattle.gc_io.specs.Streams.{Appends, AppendsPrefix};
+ghost use Rattle.gc_model.specs.declared.entry.RunReport.{RunReport as Report};
 ghost use Rattle.gc_model.specs.declared.reply.Reply.{Reply as GraphReply};
 ghost use Rattle.gc_script.specs.Script.{number_of_line};
-ghost use Rattle.gc_cli.specs.Text.{replies_text, reply_line};
+ghost use Rattle.gc_cli.specs.Text.{printed_text, replies_text, reply_line, report_line, reports_text};
 
-use crate::text::reply_line;
+use crate::opts::Opts;
+use crate::text::{reply_line, report_line};
 use gc_io::{Put, Sink};
-use gc_model::Reply;
+use gc_model::{Reply, RunReport};
 use gc_script::Script;
+
+/// Writes the replies to the lines of a script and, where the options ask for them, the reports of the collections
+/// behind them, one piece a line, and stops at the first fault. It takes no memory.
+pub(crate) fn write_text<K: Sink>(
+    opts: &Opts,
+    script: &Script,
+    replies: &[Reply],
+    reports: &[RunReport],
+    out: &mut K,
+) -> Put
+    requires { length replies.now ≡ length script.now.lines }
+    ensures all { result ≡ Put.All → Appends (K.written out.old) (K.written out.new)
+        (printed_text opts.now script.now replies.now reports.now) }
+    ensures quiet { result ≡ Put.All → K.faults out.new ≡ K.faults out.old }
+    ensures failed { result ≡ Put.Failed → HasRisen (K.faults out.old) (K.faults out.new) }
+    ensures part { result ≡ Put.Failed → AppendsPrefix (K.written out.old) (K.written out.new)
+        (printed_text opts.now script.now replies.now reports.now) }
+    ensures never_falls { K.faults out.old ≤ K.faults out.new }
+{
+    match write_replies(script, replies, out) {
+        Put::All if opts.reports => write_reports(reports, out),
+        put => put,
+    }
+}
 
 /// Writes the replies to the lines of a script, one piece a line, and stops at the first fault. It takes
 /// no memory.
-pub(crate) fn write_replies<K: Sink>(script: &Script, replies: &[Reply], out: &mut K) -> Put
+fn write_replies<K: Sink>(script: &Script, replies: &[Reply], out: &mut K) -> Put
     requires { length replies.now ≡ length script.now.lines }
     ensures all { result ≡ Put.All
         → Appends (K.written out.old) (K.written out.new) (replies_text script.now replies.now) }
@@ -47,5 +73,40 @@ fn write_reply<K: Sink>(script: &Script, replies: &[Reply], index: usize, out: &
 {
     let number = script.line_number(index).unwrap();
     let line = reply_line(number, &replies[index]);
+    out.put(line.as_bytes())
+}
+
+/// Writes the reports of collections, which are counted from 1, one piece a line, and stops at the first fault. It
+/// takes no memory.
+pub fn write_reports<K: Sink>(reports: &[RunReport], out: &mut K) -> Put
+    ensures all { result ≡ Put.All
+        → Appends (K.written out.old) (K.written out.new) (reports_text reports.now) }
+    ensures quiet { result ≡ Put.All → K.faults out.new ≡ K.faults out.old }
+    ensures failed { result ≡ Put.Failed → HasRisen (K.faults out.old) (K.faults out.new) }
+    ensures part { result ≡ Put.Failed
+        → AppendsPrefix (K.written out.old) (K.written out.new) (reports_text reports.now) }
+    ensures never_falls { K.faults out.old ≤ K.faults out.new }
+{
+    for index in 0..reports.len() {
+        match write_report(reports, index, out) {
+            Put::All => {}
+            Put::Failed => return Put::Failed,
+        }
+    }
+    Put::All
+}
+
+/// Writes a report by its place, counted from 0. The number that is printed is counted from 1.
+fn write_report<K: Sink>(reports: &[RunReport], index: usize, out: &mut K) -> Put
+    requires { index < length reports.now }
+    ensures all { (report : Report) → slice_get reports.now index ≡ Some report → result ≡ Put.All
+        → Appends (K.written out.old) (K.written out.new) (report_line (index + 1) report) }
+    ensures quiet { result ≡ Put.All → K.faults out.new ≡ K.faults out.old }
+    ensures failed { result ≡ Put.Failed → HasRisen (K.faults out.old) (K.faults out.new) }
+    ensures part { (report : Report) → slice_get reports.now index ≡ Some report → result ≡ Put.Failed
+        → AppendsPrefix (K.written out.old) (K.written out.new) (report_line (index + 1) report) }
+    ensures never_falls { K.faults out.old ≤ K.faults out.new }
+{
+    let line = report_line(index as u64 + 1, &reports[index]);
     out.put(line.as_bytes())
 }

@@ -6,6 +6,7 @@ ghost use Rattle.gc_model.specs.World.{World};
 ghost use Rattle.gc_model.specs.declared.call.Line.{Line as CallLine};
 ghost use Rattle.gc_cli.specs.Heap.{ShowsWorld, Stays, IsAnswered};
 ghost use Rattle.gc_cli.specs.Played.{IsHistoryOf, AreAllowed};
+ghost use Rattle.gc_cli.specs.Text.{reports_of};
 
 use crate::heap::Heap;
 use crate::opts::Opts;
@@ -19,7 +20,7 @@ use std::alloc::Global;
 pub(crate) fn play(alloc: Global, opts: &Opts, script: &Script) -> Result<Vec<Reply>, NoMemory>
     requires { AreAllowed opts.now }
     ensures replies { IfOk result (λ replies. (history : History) × IsHistoryOf opts.now script.now history
-        × (replies.items ≡ replies_by_line history [] script.now.lines)) }
+        × (replies.items ≡ replies_by_line history [] script.now.lines) × (reports_of history ≡ [])) }
     ensures answered { IfOk result (λ replies. vec_len replies ≡ length script.now.lines) }
 {
     let places = Places::make(script.mutators(), opts.nursery, opts.pages).unwrap();

@@ -1,17 +1,18 @@
-//! The text of a line: of a reply, and of a status. A line is made whole before it is written.
+//! The text of a line: of a reply, of a collection's report, and of a status. A line is made whole before it is
+//! written.
 
 ghost use Rattle.std.specs.Prelude.{◌≡◌, [], ◌+◌, ◌≤◌, ◌++◌, length, decimal};
-ghost use Rattle.gc_cli.specs.Text.{reply_text, reply_line};
+ghost use Rattle.gc_cli.specs.Text.{reply_text, reply_line, report_text, report_line};
 ghost use Rattle.gc_cli.specs.Command.{status_line, cause_text};
 ghost use Rattle.gc_cli.specs.declared.status.Status.TheVariants.{Bad};
 
 use crate::status::Status;
 use arrayvec::ArrayString;
-use gc_model::Reply;
+use gc_model::{Reply, RunReport};
 use itoa::Buffer;
 
-/// The most bytes of a line: more than two numbers of 20 digits and the words beside them take.
-const LONGEST_LINE: usize = 64;
+/// The most bytes of a line: more than three numbers of 20 digits and the words beside them take.
+const LONGEST_LINE: usize = 96;
 
 /// A line of the output.
 pub(crate) type TextLine = ArrayString<LONGEST_LINE>;
@@ -49,6 +50,36 @@ fn push_reply(line: &mut TextLine, reply: &Reply)
         Reply::Range => push(line, "range"),
         Reply::Blocked => push(line, "blocked"),
         Reply::NotBlocked => push(line, "not blocked"),
+    }
+}
+
+/// A line of the reports: `run`, the collection's number, a space, the report's text.
+pub(crate) fn report_line(number: u64, report: &RunReport) -> TextLine
+    ensures { result.bytes ≡ report_line number report.now }
+{
+    let mut line = ArrayString::new();
+    push(&mut line, "run ");
+    push_number(&mut line, number);
+    push(&mut line, " ");
+    push_report(&mut line, report);
+    push(&mut line, "\n");
+    line
+}
+
+/// The text of a collection's report, behind what stands there.
+fn push_report(line: &mut TextLine, report: &RunReport)
+    requires { length line.old.bytes ≤ 32 }
+    ensures text { line.new.bytes ≡ line.old.bytes ++ report_text report.now }
+    ensures short { length line.new.bytes ≤ length line.old.bytes + 60 }
+{
+    match report {
+        RunReport::Minor => push(line, "minor"),
+        RunReport::Full { objects, words } => {
+            push(line, "full objects ");
+            push_number(line, *objects);
+            push(line, " words ");
+            push_number(line, *words);
+        }
     }
 }
 
@@ -102,7 +133,7 @@ fn cause_text(cause: u8) -> &'static str
 
 /// A number in decimal, behind what stands there.
 fn push_number(line: &mut TextLine, number: u64)
-    requires { length line.old.bytes ≤ 44 }
+    requires { length line.old.bytes ≤ 76 }
     ensures text { line.new.bytes ≡ line.old.bytes ++ decimal number }
     ensures short { length (decimal number) ≤ 20 }
 {
@@ -112,7 +143,7 @@ fn push_number(line: &mut TextLine, number: u64)
 
 /// A text, behind what stands there.
 fn push(line: &mut TextLine, text: &str)
-    requires { length line.old.bytes + length text.now ≤ 64 }
+    requires { length line.old.bytes + length text.now ≤ 96 }
     ensures { line.new.bytes ≡ line.old.bytes ++ text.now }
 {
     let _ = line.try_push_str(text);

@@ -11,12 +11,13 @@ ghost use Rattle.gc_script.specs.Text.{most_bytes};
 ghost use Rattle.gc_script.specs.Script.{Script as Text};
 ghost use Rattle.gc_cli.specs.Causes.{HasNoScript, Tells, IsOrNoMemory};
 ghost use Rattle.gc_cli.specs.Command.{request_of, status_line};
-ghost use Rattle.gc_cli.specs.Played.{IsRead, IsTooLong, IsNoScript, BreaksOff, Plays, PlaysInPart, AreAllowed, default_opts};
+ghost use Rattle.gc_cli.specs.Played.{IsRead, IsTooLong, IsNoScript, BreaksOff, Plays, PlaysInPart, AreAllowed};
+ghost use Rattle.gc_cli.specs.declared.opts.Opts.{Opts as PlayOpts};
 
 use crate::command::{Request, request_of};
 use crate::input::{InputFault, read_input};
 use crate::opts::Opts;
-use crate::output::write_replies;
+use crate::output::write_text;
 use crate::play::play;
 use crate::status::{Left, Outcome, Status, write_status};
 use gc_io::{Gate, Put, Sink, Source};
@@ -35,11 +36,15 @@ pub fn moar_gc<R, S: Source, K: Sink, E: Sink, G: Gate + Sync>(
     err: &mut E,
     _gate: &G,
 ) -> Outcome
-    // The source was read to its end, its bytes are a script, and the sink got the replies of a legal history
-    // that fits the script.
+    // The words ask for a script to be played by some options. The source was read to its end, its bytes are a
+    // script, and the sink got the text of a legal history that fits the script, by these options.
     ensures done { result.status ≡ Status.Done
-        → ((bytes : List ℕ) × (script : Text) × (history : History) × Plays default_opts (S.rest src.old) (S.rest src.new)
-        (K.written out.old) (K.written out.new) bytes script history) }
+        → ((opts : PlayOpts) × (bytes : List ℕ) × (script : Text) × (history : History)
+        × (request_of (map string_bytes args.now) ≡ Some (Request.Play opts))
+        × Plays opts (S.rest src.old) (S.rest src.new) (K.written out.old) (K.written out.new) bytes script history) }
+
+    // The words ask for no options beyond their limits.
+    ensures allowed { (opts : PlayOpts) → request_of (map string_bytes args.now) ≡ Some (Request.Play opts) → AreAllowed opts }
 
     // Each other status has its cause; want of memory is free.
     ensures usage { (result.status ≡ Status.Usage) ↔ (request_of (map string_bytes args.now) ≡ None) }
@@ -52,18 +57,21 @@ pub fn moar_gc<R, S: Source, K: Sink, E: Sink, G: Gate + Sync>(
         → ((bytes : List ℕ) × IsNoScript (S.rest src.old) (S.rest src.new) bytes line cause) }
     ensures write_fault { result.status ≡ Status.WriteFault → HasRisen (K.faults out.old) (K.faults out.new) }
     ensures write_part { result.status ≡ Status.WriteFault
-        → ((bytes : List ℕ) × (script : Text) × (history : History) × PlaysInPart default_opts (S.rest src.old) (S.rest src.new)
-        (K.written out.old) (K.written out.new) bytes script history) }
+        → ((opts : PlayOpts) × (bytes : List ℕ) × (script : Text) × (history : History)
+        × (request_of (map string_bytes args.now) ≡ Some (Request.Play opts))
+        × PlaysInPart opts (S.rest src.old) (S.rest src.new) (K.written out.old) (K.written out.new) bytes script history) }
 
     // What else was given is told: a text that is too long, the first fault of one that is no script; and a
     // script is played, where the sink counts no fault. Want of memory may stand in place of each.
-    ensures long_is_told { (bytes : List ℕ) → request_of (map string_bytes args.now) ≡ Some Request.Play
+    ensures long_is_told { (opts : PlayOpts) (bytes : List ℕ) → request_of (map string_bytes args.now) ≡ Some (Request.Play opts)
         → Tells (S.rest src.old) (S.faults src.old) (S.faults src.new) bytes
         → most_bytes < length bytes → IsOrNoMemory Status.Long result.status }
-    ensures bad_is_told { (bytes : List ℕ) (line cause : ℕ) → request_of (map string_bytes args.now) ≡ Some Request.Play
+    ensures bad_is_told { (opts : PlayOpts) (bytes : List ℕ) (line cause : ℕ)
+        → request_of (map string_bytes args.now) ≡ Some (Request.Play opts)
         → Tells (S.rest src.old) (S.faults src.old) (S.faults src.new) bytes
         → length bytes ≤ most_bytes → IsFirstFault bytes line cause → IsOrNoMemory (Status.Bad line cause) result.status }
-    ensures complete { (bytes : List ℕ) (script : Text) → request_of (map string_bytes args.now) ≡ Some Request.Play
+    ensures complete { (opts : PlayOpts) (bytes : List ℕ) (script : Text)
+        → request_of (map string_bytes args.now) ≡ Some (Request.Play opts)
         → Tells (S.rest src.old) (S.faults src.old) (S.faults src.new) bytes
         → length bytes ≤ most_bytes → IsScript bytes script → ¬ HasRisen (K.faults out.old) (K.faults out.new)
         → IsOrNoMemory Status.Done result.status }
@@ -85,7 +93,7 @@ pub fn moar_gc<R, S: Source, K: Sink, E: Sink, G: Gate + Sync>(
     ensures err_never_falls { E.faults err.old ≤ E.faults err.new }
 {
     let outcome = match request_of(args) {
-        Some(Request::Play) => play_bytes(alloc, &Opts::DEFAULT, src, out),
+        Some(Request::Play(opts)) => play_bytes(alloc, &opts, src, out),
         None => Outcome::nothing_left(Status::Usage),
     };
     write_status(outcome.status, err);
@@ -93,7 +101,8 @@ pub fn moar_gc<R, S: Source, K: Sink, E: Sink, G: Gate + Sync>(
 }
 
 /// Reads a script, plays its lines in the order of the text, and then each mutator's End, and writes the replies
-/// by line number. It waits for nobody. A half of the heap has `nursery` words.
+/// by line number and, with `reports`, the reports of the collections behind them. It waits for nobody. A half of
+/// the heap has `nursery` words, and each mutator `pages` pages.
 pub fn play_bytes<S: Source, K: Sink>(
     alloc: Global,
     opts: &Opts,
@@ -102,8 +111,8 @@ pub fn play_bytes<S: Source, K: Sink>(
 ) -> Outcome
     requires { AreAllowed opts.now }
 
-    // The source was read to its end, its bytes are a script, and the sink got the replies of a legal history
-    // that fits the script.
+    // The source was read to its end, its bytes are a script, and the sink got the text of a legal history that
+    // fits the script.
     ensures done { result.status ≡ Status.Done
         → ((bytes : List ℕ) × (script : Text) × (history : History) × Plays opts.now (S.rest src.old) (S.rest src.new)
         (K.written out.old) (K.written out.new) bytes script history) }
@@ -148,7 +157,8 @@ pub fn play_bytes<S: Source, K: Sink>(
     let Ok(replies) = play(alloc, opts, &script) else {
         return Outcome::nothing_left(Status::NoMemory);
     };
-    match write_replies(&script, replies.as_slice(), out) {
+    // The private heap collects nothing, so there is no report.
+    match write_text(opts, &script, replies.as_slice(), &[], out) {
         Put::All => Outcome::nothing_left(Status::Done),
         Put::Failed => Outcome::nothing_left(Status::WriteFault),
     }
