@@ -1,11 +1,3 @@
 pub mod AllowedLemmas
 pub mod CommandLemmas
-pub mod HeapBays
-pub mod HeapFields
-pub mod HeapNames
-pub mod HeapNew
-pub mod HeapPlaces
-pub mod HeapShows
-pub mod HeapStores
-pub mod HeapWords
 pub mod PlayLemmas

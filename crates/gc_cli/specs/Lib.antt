@@ -1,5 +1,5 @@
 pub mod Causes
 pub mod Command
-pub mod Heap
 pub mod Played
+pub mod Replies
 pub mod Text

@@ -1,16 +1,22 @@
 -- What a run of the program read, played and printed.
-use Rattle.std.specs.Prelude.{◌≡◌, ℕ, ◌+◌, ◌<◌, ◌≤◌, List, [], ◌++◌, length, Option, IfSome}
+use Rattle.std.specs.Prelude.{◌≡◌, ℕ, ◌+◌, ◌<◌, ◌≤◌, List, [], ◌++◌, length, filter, sum_by, take, Option, IfSome}
 use Rattle.gc_io.specs.Faults.{HasRisen}
 use Rattle.gc_io.specs.Streams.{GivesUp, Appends, AppendsPrefix}
 use Rattle.gc_layout.specs.Sizes.{largest_size}
-use Rattle.gc_model.specs.History.{Configuration, History, FitsScript, lines_in, ends_of}
+use Rattle.gc_model.specs.declared.call.Line.{Line}
+use Rattle.gc_model.specs.declared.reply.Reply.{Reply}
+use Rattle.gc_model.specs.History.{Configuration, History, FitsScript, allowance_of, ends_of, is_collection, lines_in, replies_in}
 use Rattle.gc_model.specs.Legal.{IsLegal}
 use Rattle.gc_script.specs.Grammar.{IsScript, IsFirstFault}
 use Rattle.gc_script.specs.Script.{Script}
 use Rattle.gc_script.specs.Text.{most_bytes}
+use Rattle.gc_solo.specs.Kept.{Kept}
+use Rattle.gc_solo.specs.Stands.{StandsFor, configuration_of}
 use Rattle.gc_cli.specs.declared.command.Request.{Request}
 use Rattle.gc_cli.specs.declared.command.Request.TheVariants.{Play}
 use Rattle.gc_cli.specs.declared.opts.Opts.{Opts}
+use Rattle.gc_cli.specs.declared.status.Left.{Left}
+use Rattle.gc_cli.specs.declared.status.Left.TheVariants.{Nothing, Solo}
 use Rattle.gc_cli.specs.Text.{text_of}
 
 -- the source, whose rest was one and is another, was read to its end, and gave these bytes, no more than a
@@ -36,21 +42,49 @@ pub record IsHistoryOf (opts : Opts) (script : Script) (history : History) : Typ
   pub fits : FitsScript script.preamble.mutators script.lines history
   pub in_order : lines_in history ≡ script.lines ++ ends_of script.preamble.mutators
 
--- the source was read to its end, its bytes are this script, it was played by this history, and the sink got the
--- text of it: the replies by line number and, where the options ask for them, the reports behind them
-pub record Plays (opts : Opts) (rest_old rest_new written_old written_new : Option (List ℕ))
+-- a heap of one thread is the one that was asked for, and stands for this history
+pub record IsHeapOf (kept : Kept) (configuration : Configuration) (history : History) : Type 0 where
+  pub configuration_is : configuration_of kept ≡ configuration
+  pub stands : StandsFor kept history
+
+-- the heap that is left is this
+abbrev pub LeavesHeap : Left → Configuration → History → Type 0
+LeavesHeap Nothing configuration history = ⊥
+LeavesHeap (Solo kept) configuration history = IsHeapOf kept configuration history
+
+-- behind a history stand these entries, the calls of these lines in their order and no collection, and the heap stands
+-- for all of it
+pub record HasMade (kept : Kept) (history more : History) (lines : List Line) : Type 0 where
+  pub stands : StandsFor kept (history ++ more)
+  pub in_order : lines_in more ≡ lines
+  pub collections : length (filter is_collection more) ≡ 0
+
+-- behind a history stand the script's lines in the order of the text, with these replies, and then the End of each
+-- mutator, with no more collections than the lines allow; and the heap stands for all of it
+pub record HasPlayed (kept : Kept) (script : Script) (replies : List Reply) (history more : History) : Type 0 where
+  pub stands : StandsFor kept (history ++ more)
+  pub in_order : lines_in more ≡ script.lines ++ ends_of script.preamble.mutators
+  pub replies_are : replies ≡ take (length script.lines) (replies_in more)
+  pub collections : length (filter is_collection more) ≤ sum_by (λ line. allowance_of line.call) script.lines
+
+-- the source was read to its end, its bytes are this script, it was played by this history, for which the heap that is
+-- left stands, and the sink got the text of it: the replies by line number and, where the options ask for them, the
+-- reports behind them
+pub record Plays (opts : Opts) (rest_old rest_new written_old written_new : Option (List ℕ)) (left : Left)
     (bytes : List ℕ) (script : Script) (history : History) : Type 0 where
   pub read : IsRead rest_old rest_new bytes
   pub script_is : IsScript bytes script
   pub played : IsHistoryOf opts script history
+  pub heap : LeavesHeap left (heap_for opts script) history
   pub printed : Appends written_old written_new (text_of opts script history)
 
 -- as before, but the sink got only the first bytes of the text, maybe none
-pub record PlaysInPart (opts : Opts) (rest_old rest_new written_old written_new : Option (List ℕ))
+pub record PlaysInPart (opts : Opts) (rest_old rest_new written_old written_new : Option (List ℕ)) (left : Left)
     (bytes : List ℕ) (script : Script) (history : History) : Type 0 where
   pub read : IsRead rest_old rest_new bytes
   pub script_is : IsScript bytes script
   pub played : IsHistoryOf opts script history
+  pub heap : LeavesHeap left (heap_for opts script) history
   pub printed : AppendsPrefix written_old written_new (text_of opts script history)
 
 -- the source was read to its end, and its bytes are no script: its first fault has this line and this cause

@@ -1,14 +1,12 @@
 -- The printed text.
 use Rattle.std.specs.Prelude.{ℕ, ◌+◌, List, [], ◌∷◌, ◌++◌, Option, None, Some, if◌then◌else◌, codes, decimal}
-use Rattle.std.specs.List.{filter_map}
-use Rattle.gc_model.specs.declared.entry.Entry.{Entry}
-use Rattle.gc_model.specs.declared.entry.Entry.TheVariants.{Made, Run}
 use Rattle.gc_model.specs.declared.entry.RunReport.{RunReport}
 use Rattle.gc_model.specs.declared.entry.RunReport.TheVariants as report
 use Rattle.gc_model.specs.declared.reply.Reply.{Reply}
 use Rattle.gc_model.specs.declared.reply.Reply.TheVariants.{Done, Full, Number, Yes, No, Found, Nil, NilBase, Range, Blocked, NotBlocked}
 use Rattle.gc_model.specs.History.{History, replies_by_line}
 use Rattle.gc_script.specs.Script.{Script, number_of_line}
+use Rattle.gc_solo.specs.Reports.{reports_of}
 use Rattle.gc_cli.specs.declared.opts.Opts.{Opts}
 
 -- the text of a reply
@@ -55,15 +53,6 @@ reports_from number (report ∷ reports) = report_line number report ++ reports_
 -- the reports of collections, which are counted from 1
 abbrev pub reports_text : List RunReport → List ℕ
 reports_text reports = reports_from 1 reports
-
--- the report of an entry, where it is a collection
-abbrev pub made_report : Entry → Option RunReport
-made_report (Made mutator call reply) = None
-made_report (Run report) = Some report
-
--- the reports of a history's collections, in their order
-abbrev pub reports_of : History → List RunReport
-reports_of history = filter_map made_report history
 
 -- the printed text of replies and reports, by the options: the reports stand behind the replies, where they are asked for
 abbrev pub printed_text : Opts → Script → List Reply → List RunReport → List ℕ

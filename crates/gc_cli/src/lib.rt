@@ -3,17 +3,16 @@
 //! `moar_gc` is the top call. It reads the words with their options, reads the source to its end, reads the
 //! script, plays its lines on the heap, and writes each reply and, where an option asks for them, the reports of
 //! the collections. Its contract says what was played and printed where the status is Done, and for every other
-//! status its cause. The heap of this stage is private: each mutator has its own half, in which a new object
-//! stands behind the others, and nothing is collected. How its words show a world of the graph is a definition in
-//! specs/, and every call is proved to give the graph's reply and to show the graph's world afterwards.
+//! status its cause. The lines are played on a heap of one thread, a `Solo`, which is handed back: it stands for the
+//! very history whose replies were printed. `play_lines` is that part alone.
 #![tactic(auto)]
 
 mod command;
-mod heap;
 mod input;
 mod opts;
 mod output;
 mod play;
+mod replies;
 mod status;
 mod text;
 mod top;
@@ -21,5 +20,7 @@ mod top;
 pub use command::Request;
 pub use opts::Opts;
 pub use output::write_reports;
+pub use play::play_lines;
+pub use replies::Replies;
 pub use status::{Left, Outcome, Status, write_status};
 pub use top::{moar_gc, play_bytes};

@@ -1,87 +1,110 @@
 //! Plays a script: each line's call in the order of the text, and then the End of each mutator.
-ghost use Rattle.std.specs.Prelude.{◌≡◌, ◌<◌, ◌≤◌, ◌++◌, [], length, IfOk, slice_get, Some, vec_len, vec_capacity};
-ghost use Rattle.gc_model.specs.History.{History, replies_by_line, ends_of};
-ghost use Rattle.gc_model.specs.Interim.{answer_to, replies_of, world_after_lines};
-ghost use Rattle.gc_model.specs.World.{World};
+ghost use Rattle.std.specs.Prelude.{◌≡◌, ◌+◌, ◌<◌, ◌≤◌, ◌++◌, [], length, sum_by, take, IfOk, slice_get, Some};
+ghost use Rattle.gc_model.specs.History.{History, allowance_of, ends_of, replies_by_line};
 ghost use Rattle.gc_model.specs.declared.call.Line.{Line as CallLine};
-ghost use Rattle.gc_cli.specs.Heap.{ShowsWorld, Stays, IsAnswered};
-ghost use Rattle.gc_cli.specs.Played.{IsHistoryOf, AreAllowed};
-ghost use Rattle.gc_cli.specs.Text.{reports_of};
+ghost use Rattle.gc_model.specs.declared.entry.Entry.TheVariants.{Made};
+ghost use Rattle.gc_solo.specs.Stands.{StandsFor, Stays};
+ghost use Rattle.gc_cli.specs.Played.{AreAllowed, HasMade, HasPlayed, IsHeapOf, IsHistoryOf, heap_for};
 
-use crate::heap::Heap;
 use crate::opts::Opts;
+use crate::replies::Replies;
 use gc_layout::{NoMemory, Places};
 use gc_model::{Call, Line, Reply};
 use gc_script::Script;
+use gc_solo::Solo;
 use std::alloc::Global;
 
-/// Plays a script on a heap of its own, and gives the replies to its lines. All memory is taken before the first
-/// line is played.
-pub(crate) fn play(alloc: Global, opts: &Opts, script: &Script) -> Result<Vec<Reply>, NoMemory>
+/// A script that was played: the heap on which it was, and the replies to its lines.
+#[derive(Drop)]
+pub(crate) struct Played {
+    pub(crate) solo: Solo,
+    pub(crate) replies: Replies,
+}
+
+/// Plays a script on a heap of its own. All memory is taken before the first line is played.
+pub(crate) fn play(alloc: Global, opts: &Opts, script: &Script) -> Result<Played, NoMemory>
     requires { AreAllowed opts.now }
-    ensures replies { IfOk result (λ replies. (history : History) × IsHistoryOf opts.now script.now history
-        × (replies.items ≡ replies_by_line history [] script.now.lines) × (reports_of history ≡ [])) }
-    ensures answered { IfOk result (λ replies. vec_len replies ≡ length script.now.lines) }
+    ensures played { IfOk result (λ played. (history : History) × IsHistoryOf opts.now script.now history
+        × IsHeapOf played.solo (heap_for opts.now script.now) history
+        × (played.replies.list ≡ replies_by_line history [] script.now.lines)) }
+    ensures answered { IfOk result (λ played. length played.replies.list ≡ length script.now.lines) }
 {
     let places = Places::make(script.mutators(), opts.nursery, opts.pages).unwrap();
-    let mut heap = Heap::make(alloc, script.types(), places)?;
-    let Ok(mut replies) = Vec::with_capacity(alloc, script.count()) else {
-        return Err(NoMemory);
-    };
-    play_lines(&mut heap, script, &mut replies);
-    Ok(replies)
+    let mut solo = Solo::make(alloc, places, script.types(), allowance(script))?;
+    let mut replies = Replies::make(alloc, script.count())?;
+    play_lines(&mut solo, script, &mut replies);
+    Ok(Played { solo, replies })
+}
+
+/// How many collections the lines of a script may bring: two for each New.
+fn allowance(script: &Script) -> u32
+    ensures { result ≡ sum_by (λ line. allowance_of line.call) script.now.lines }
+{
+    let mut sum = 0;
+    for index in 0..script.count() {
+        sum += line_allowance(script, index);
+    }
+    sum
+}
+
+/// How many collections a line of the script, counted from 0, may bring.
+fn line_allowance(script: &Script, index: usize) -> u32
+    requires { index < length script.now.lines }
+    ensures allowance { (line : CallLine) → slice_get script.now.lines index ≡ Some line → result ≡ allowance_of line.call }
+    ensures most { result ≤ 2 }
+{
+    match script.line(index).unwrap().call {
+        Call::New { .. } => 2,
+        Call::Collect => 1,
+        _ => 0,
+    }
 }
 
 /// Makes each line's call in the order of the text and appends its reply, and then makes the End of each mutator
-/// in order of number. It takes no memory.
-fn play_lines(heap: &mut Heap, script: &Script, replies: &mut Vec<Reply>)
-    requires types { heap.old.types.now ≡ script.now.preamble.types }
-    requires mutators { heap.old.places.mutators ≡ script.now.preamble.mutators }
-    requires shown { (world : World) × ShowsWorld heap.old world }
-    requires empty { replies.old.items ≡ [] }
-    requires room { length script.now.lines ≤ vec_capacity replies.old }
-    ensures stays { Stays heap.old heap.new }
-    // Whatever world the heap showed, it shows the graph's world after the lines and the Ends.
-    ensures shown { (world : World) → ShowsWorld heap.old world → ShowsWorld heap.new
-        (world_after_lines heap.old.types.now heap.old.places.nursery world (script.now.lines ++ ends_of script.now.preamble.mutators)) }
-    ensures replies { (world : World) → ShowsWorld heap.old world
-        → replies.new.items ≡ replies_of heap.old.types.now heap.old.places.nursery world script.now.lines }
-    ensures answered { vec_len replies.new ≡ length script.now.lines }
+/// in order of number. Whatever history the heap stood for, it stands afterwards for that one and these calls, with
+/// the collections that they brought. It takes no memory: there are report places for all collections that the
+/// lines may bring, and room for their replies.
+pub fn play_lines(solo: &mut Solo, script: &Script, replies: &mut Replies)
+    requires types { solo.old.types ≡ script.now.preamble.types }
+    requires mutators { solo.old.layout.mutators ≡ script.now.preamble.mutators }
+    requires reports { sum_by (λ line. allowance_of line.call) script.now.lines ≤ solo.old.room }
+    requires empty { replies.old.list ≡ [] }
+    requires room { length script.now.lines ≤ replies.old.room }
+    ensures played { (history : History) → StandsFor solo.old history
+        → (more : History) × HasPlayed solo.new script.now replies.new.list history more }
+    ensures stays { Stays solo.old solo.new }
+    ensures answered { length replies.new.list ≡ length script.now.lines }
 {
     for index in 0..script.count() {
-        replies.push_reserved(play_line(heap, script, index));
+        replies.push(play_line(solo, script, index));
     }
-    end_all(heap, script.mutators());
+    end_all(solo, script.mutators());
 }
 
 /// Plays a line of the script, counted from 0.
-fn play_line(heap: &mut Heap, script: &Script, index: usize) -> Reply
-    requires types { heap.old.types.now ≡ script.now.preamble.types }
-    requires mutators { heap.old.places.mutators ≡ script.now.preamble.mutators }
-    requires shown { (world : World) × ShowsWorld heap.old world }
+fn play_line(solo: &mut Solo, script: &Script, index: usize) -> Reply
+    requires types { solo.old.types ≡ script.now.preamble.types }
+    requires mutators { solo.old.layout.mutators ≡ script.now.preamble.mutators }
     requires there { index < length script.now.lines }
-    ensures stays { Stays heap.old heap.new }
-    ensures answered { (world : World) (line : CallLine) → ShowsWorld heap.old world
+    requires reports { sum_by (λ line. allowance_of line.call) script.now.lines ≤ solo.old.room }
+    ensures stands { (history : History) (line : CallLine) → StandsFor solo.old history
         → slice_get script.now.lines index ≡ Some line
-        → IsAnswered heap.new result (answer_to heap.old.types.now heap.old.places.nursery world line) }
+        → StandsFor solo.new (history ++ Made line.mutator line.call result ∷ []) }
+    ensures stays { Stays solo.old solo.new }
 {
     // Taken apart, since the prover has to be shown the type of the call here.
     let Line { mutator, call } = script.line(index).unwrap();
-    heap.call(&Line { mutator, call })
+    solo.call(mutator, &call)
 }
 
 /// Makes the End of each mutator, in order of number.
-fn end_all(heap: &mut Heap, mutators: u8)
-    requires mutators { heap.old.places.mutators ≡ mutators }
-    requires shown { (world : World) × ShowsWorld heap.old world }
-    ensures stays { Stays heap.old heap.new }
-    ensures ended { (world : World) → ShowsWorld heap.old world → ShowsWorld heap.new
-        (world_after_lines heap.old.types.now heap.old.places.nursery world (ends_of mutators)) }
+fn end_all(solo: &mut Solo, mutators: u8)
+    requires mutators { solo.old.layout.mutators ≡ mutators }
+    ensures ended { (history : History) → StandsFor solo.old history
+        → (more : History) × HasMade solo.new history more (ends_of mutators) }
+    ensures stays { Stays solo.old solo.new }
 {
     for mutator in 0..mutators {
-        heap.call(&Line {
-            mutator,
-            call: Call::End,
-        });
+        solo.call(mutator, &Call::End);
     }
 }

@@ -7,6 +7,7 @@ ghost use Rattle.gc_cli.specs.Command.{code_of, status_line};
 
 use crate::text::status_line;
 use gc_io::Sink;
+use gc_solo::Solo;
 
 /// How the program ended.
 #[derive(Clone, Copy, Debug, PartialEq, Eq)]
@@ -44,14 +45,15 @@ impl Status {
     }
 }
 
-/// The heap on which the lines were played, where it is handed back. So far it is never.
-#[derive(Clone, Copy, Debug, PartialEq, Eq)]
+/// The heap on which the lines were really played: nothing where none were, or where their text wasn't written.
+#[derive(Debug, Drop)]
 pub enum Left {
     Nothing,
+    Solo(Solo),
 }
 
 /// How the program ended, and the heap on which the lines were played.
-#[derive(Clone, Copy, Debug, PartialEq, Eq)]
+#[derive(Debug, Drop)]
 pub struct Outcome {
     pub status: Status,
     pub left: Left,

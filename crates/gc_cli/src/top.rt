@@ -18,7 +18,7 @@ use crate::command::{Request, request_of};
 use crate::input::{InputFault, read_input};
 use crate::opts::Opts;
 use crate::output::write_text;
-use crate::play::play;
+use crate::play::{Played, play};
 use crate::status::{Left, Outcome, Status, write_status};
 use gc_io::{Gate, Put, Sink, Source};
 use gc_script::{Script, ScriptFault, read_script};
@@ -41,7 +41,7 @@ pub fn moar_gc<R, S: Source, K: Sink, E: Sink, G: Gate + Sync>(
     ensures done { result.status ≡ Status.Done
         → ((opts : PlayOpts) × (bytes : List ℕ) × (script : Text) × (history : History)
         × (request_of (map string_bytes args.now) ≡ Some (Request.Play opts))
-        × Plays opts (S.rest src.old) (S.rest src.new) (K.written out.old) (K.written out.new) bytes script history) }
+        × Plays opts (S.rest src.old) (S.rest src.new) (K.written out.old) (K.written out.new) result.left bytes script history) }
 
     // The words ask for no options beyond their limits.
     ensures allowed { (opts : PlayOpts) → request_of (map string_bytes args.now) ≡ Some (Request.Play opts) → AreAllowed opts }
@@ -59,7 +59,7 @@ pub fn moar_gc<R, S: Source, K: Sink, E: Sink, G: Gate + Sync>(
     ensures write_part { result.status ≡ Status.WriteFault
         → ((opts : PlayOpts) × (bytes : List ℕ) × (script : Text) × (history : History)
         × (request_of (map string_bytes args.now) ≡ Some (Request.Play opts))
-        × PlaysInPart opts (S.rest src.old) (S.rest src.new) (K.written out.old) (K.written out.new) bytes script history) }
+        × PlaysInPart opts (S.rest src.old) (S.rest src.new) (K.written out.old) (K.written out.new) result.left bytes script history) }
 
     // What else was given is told: a text that is too long, the first fault of one that is no script; and a
     // script is played, where the sink counts no fault. Want of memory may stand in place of each.
@@ -82,7 +82,7 @@ pub fn moar_gc<R, S: Source, K: Sink, E: Sink, G: Gate + Sync>(
 
     // Unless something was played and written, the sink is as before.
     ensures untouched { result.status ≢ Status.Done → result.status ≢ Status.WriteFault → out.new ≡ out.old }
-    ensures left { result.left ≡ Left.Nothing }
+    ensures left { result.status ≢ Status.Done → result.status ≢ Status.WriteFault → result.left ≡ Left.Nothing }
 
     // The line of the status goes to standard error, whole where no fault was counted there.
     ensures told { ¬ HasRisen (E.faults err.old) (E.faults err.new)
@@ -115,7 +115,7 @@ pub fn play_bytes<S: Source, K: Sink>(
     // fits the script.
     ensures done { result.status ≡ Status.Done
         → ((bytes : List ℕ) × (script : Text) × (history : History) × Plays opts.now (S.rest src.old) (S.rest src.new)
-        (K.written out.old) (K.written out.new) bytes script history) }
+        (K.written out.old) (K.written out.new) result.left bytes script history) }
 
     // Each other status has its cause; want of memory is free.
     ensures no_usage { result.status ≢ Status.Usage }
@@ -128,7 +128,7 @@ pub fn play_bytes<S: Source, K: Sink>(
     ensures write_fault { result.status ≡ Status.WriteFault → HasRisen (K.faults out.old) (K.faults out.new) }
     ensures write_part { result.status ≡ Status.WriteFault
         → ((bytes : List ℕ) × (script : Text) × (history : History) × PlaysInPart opts.now (S.rest src.old) (S.rest src.new)
-        (K.written out.old) (K.written out.new) bytes script history) }
+        (K.written out.old) (K.written out.new) result.left bytes script history) }
 
     // What else was given is told: a text that is too long, the first fault of one that is no script; and a
     // script is played, where the sink counts no fault. Want of memory may stand in place of each.
@@ -146,7 +146,7 @@ pub fn play_bytes<S: Source, K: Sink>(
 
     // Unless something was played and written, the sink is as before.
     ensures untouched { result.status ≢ Status.Done → result.status ≢ Status.WriteFault → out.new ≡ out.old }
-    ensures left { result.left ≡ Left.Nothing }
+    ensures left { result.status ≢ Status.Done → result.status ≢ Status.WriteFault → result.left ≡ Left.Nothing }
     ensures src_never_falls { S.faults src.old ≤ S.faults src.new }
     ensures out_never_falls { K.faults out.old ≤ K.faults out.new }
 {
@@ -154,13 +154,17 @@ pub fn play_bytes<S: Source, K: Sink>(
         Ok(script) => script,
         Err(status) => return Outcome::nothing_left(status),
     };
-    let Ok(replies) = play(alloc, opts, &script) else {
+    let Ok(played) = play(alloc, opts, &script) else {
         return Outcome::nothing_left(Status::NoMemory);
     };
-    // The private heap collects nothing, so there is no report.
-    match write_text(opts, &script, replies.as_slice(), &[], out) {
-        Put::All => Outcome::nothing_left(Status::Done),
-        Put::Failed => Outcome::nothing_left(Status::WriteFault),
+    let Played { solo, replies } = played;
+    let status = match write_text(opts, &script, replies.as_slice(), solo.reports(), out) {
+        Put::All => Status::Done,
+        Put::Failed => Status::WriteFault,
+    };
+    Outcome {
+        status,
+        left: Left::Solo(solo),
     }
 }
 
