@@ -4,11 +4,14 @@ use Rattle.std.proofs.lemmas.List.{length-replicate}
 use Rattle.std.proofs.lemmas.List.Elements.{All-replicate}
 use Rattle.std.proofs.lemmas.List.Sums.{count_by-le-length}
 use Rattle.std.proofs.lemmas.Option.{none-some}
+use Rattle.std.specs.Prelude.{option_map}
 use Rattle.gc_bay.specs.Bay.{Bay, IsBay, fresh_bay}
+use Rattle.gc_bay.specs.Extent.{next_in_cells}
 use Rattle.gc_gen2.proofs.ListLemmas.{count_by-all, position-first, position-none}
 use Rattle.gc_gen2.proofs.NextCellLaws.{next-fresh}
 use Rattle.gc_gen2.proofs.PageLemmas.{IsWellFormedPage-free}
 use Rattle.gc_gen2.specs.Cells.{IsUsed, IsWellFormed, class_at, first_free_page, first_page_with_room, free_pages, next_cell}
+use Rattle.gc_gen2.specs.Class.{class_of}
 use Rattle.gc_gen2.specs.Page.{IsWellFormedPage, Page, free_page, has_room, is_free_page}
 use Rattle.gc_layout.specs.declared.shape.TypeNo.{TypeNo}
 use Rattle.gc_layout.specs.Places.{IsWithinLimits, Layout, cell_address}
@@ -96,6 +99,12 @@ fresh-next_cell n class some =
     position-first is_free_page pages 0 free_page (omega (arith, some, length-replicate n free_page)) (λ k below. absurd (omega (arith, below)))
     (ap is_free_page (replicate-at n 0 free_page)) in
     next-fresh pages class (Some 0) full first ∙ ap Some (omega arith)
+
+-- so a fresh bay's first cell is its next one
+pub fresh-next_in_cells : (layout : Layout) (m size : ℕ) → 1 ≤ layout.pages
+    → next_in_cells (fresh_bay layout m) size ≡ Some (cell_address layout m 0)
+fresh-next_in_cells layout m size some =
+    ap (option_map (cell_address layout m)) (fresh-next_cell layout.pages (class_of size) some)
 
 -- ---- the first memory
 
