@@ -1,0 +1,3 @@
+pub mod First
+pub mod Interim
+pub mod Standing
