@@ -1,0 +1,5 @@
+pub mod Allocation
+pub mod Answered
+pub mod Interim
+pub mod Names
+pub mod Registers
