@@ -1,2 +1,2 @@
--- The proofs of what is true as long as nothing is collected. They go with specs/Interim.antt.
+pub mod MadeNew
 pub mod Standing
