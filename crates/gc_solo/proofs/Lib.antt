@@ -1,0 +1,4 @@
+pub mod Answered
+pub mod Fields
+pub mod Interim
+pub mod Placed
