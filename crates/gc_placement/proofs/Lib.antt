@@ -1,5 +1,6 @@
 pub mod Bays
 pub mod Extents
+pub mod First
 pub mod Graphs
 pub mod Headers
 pub mod Lists

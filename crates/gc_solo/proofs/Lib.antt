@@ -1,0 +1,9 @@
+pub mod Allocation
+pub mod Answered
+pub mod Fields
+pub mod First
+pub mod Interim
+pub mod Names
+pub mod Placed
+pub mod Registers
+pub mod Standing

@@ -1,5 +1,5 @@
 -- What a heap of one thread keeps, and how it shows a world.
-use Rattle.std.specs.Prelude.{◌≡◌, ℕ, ◌+◌, ◌<◌, List, [], length, replicate, slice_index, slice_index_or, Bool, false}
+use Rattle.std.specs.Prelude.{◌≡◌, ℕ, ◌+◌, ◌<◌, List, length, slice_index, slice_index_or, Bool, false}
 use Rattle.gc_bay.specs.Bay.{Bay, fresh_bay}
 use Rattle.gc_layout.specs.declared.shape.Shape.{Shape}
 use Rattle.gc_layout.specs.Places.{Layout, word_count}

@@ -7,7 +7,7 @@ ghost use Rattle.gc_model.specs.Built.{IsBuilt};
 ghost use Rattle.gc_model.specs.Graph.{object_at};
 ghost use Rattle.gc_model.specs.Interim.{answer_to, has_room};
 ghost use Rattle.gc_model.specs.World.{World};
-ghost use Rattle.gc_placement.specs.Changes.{KeepsBays, Stores};
+ghost use Rattle.gc_placement.specs.Changes.{Stores};
 ghost use Rattle.gc_placement.specs.Placement.{Placement};
 ghost use Rattle.gc_solo.specs.Kept.{Kept, kept_of, memory_of, most_mutators};
 ghost use Rattle.gc_solo.specs.Stands.{IsAnswered, IsReadyFor, IsReadyIn, Stays};
@@ -118,11 +118,9 @@ impl Heap {
     /// Stores the word of this address.
     fn store(&mut self, address: u64, word: u64)
         requires { address < length self.old.words.items }
-        ensures stays { Stays (kept_of self.old) (kept_of self.new) }
         ensures stored { Stores (memory_of (kept_of self.old)).word (memory_of (kept_of self.new)).word address word }
-        ensures bays { KeepsBays (memory_of (kept_of self.old)) (memory_of (kept_of self.new)) }
         ensures count { length self.new.words.items ≡ length self.old.words.items }
-        ensures blocked { self.new.blocked ≡ self.old.blocked }
+        ensures rest { self.new ≡ record self.old { words = self.new.words } }
     {
         self.words[address as usize] = word;
     }

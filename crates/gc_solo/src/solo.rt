@@ -1,5 +1,5 @@
 //! The public type: a heap that stands for a history.
-ghost use Rattle.std.specs.Prelude.{◌≡◌, ◌≤◌, ◌++◌, ◌∷◌, ◌↔◌, [], length, slice_get, IfOk, IsNone};
+ghost use Rattle.std.specs.Prelude.{◌≡◌, ◌<◌, ◌≤◌, ◌++◌, ◌∷◌, ◌↔◌, ℕ, [], length, slice_get, IfOk, IsNone};
 ghost use Rattle.gc_model.specs.Answer.{IsFit};
 ghost use Rattle.gc_model.specs.Built.{IsBuilt};
 ghost use Rattle.gc_model.specs.History.{History, allowance_of};
@@ -32,10 +32,12 @@ impl Model for Solo {
 }
 
 impl Solo {
+    ghost use Rattle.gc_solo.specs.Kept.{bay_at};
     ghost use Rattle.gc_solo.specs.Stands.{Stands, StandsFor, Stays};
 
     /// A heap that stands for the empty history: it has the common object alone, all registers are nothing, and
-    /// nobody is blocked. All memory is taken here, with room for so many reports of collections.
+    /// nobody is blocked. No page counts as given. All memory is taken here, with room for so many reports of
+    /// collections.
     pub fn make(
         alloc: Global,
         places: Places,
@@ -46,6 +48,7 @@ impl Solo {
         ensures types { IfOk result (λ solo. solo.types ≡ types.now) }
         ensures layout { IfOk result (λ solo. solo.layout ≡ places) }
         ensures room { IfOk result (λ solo. solo.room ≡ reports) }
+        ensures given { IfOk result (λ solo. (t : ℕ) → t < places.mutators → (bay_at solo.bays t).given ≡ 0) }
     {
         Ok(Solo {
             heap: Heap::make(alloc, places, types, reports)?,

@@ -5,7 +5,7 @@ ghost use Rattle.gc_model.specs.Answer.{effect, number_owner, slot_owner};
 ghost use Rattle.gc_model.specs.World.{World};
 ghost use Rattle.gc_model.specs.declared.call.Call.TheVariants.{Get, Put, Ask, Set, SwapIf, Share, Take};
 ghost use Rattle.gc_placement.specs.Placement.{Placement};
-ghost use Rattle.gc_solo.specs.Fields.{IsCommonSlot, IsNumber, IsSlot};
+ghost use Rattle.gc_solo.specs.Fields.{IsNumber, IsSlot, IsSlotOf};
 ghost use Rattle.gc_solo.specs.Kept.{kept_of};
 ghost use Rattle.gc_solo.specs.Stands.{IsAnswered, IsReadyFor, IsReadyIn, Stays};
 
@@ -59,7 +59,7 @@ impl Heap {
         requires ready { IsReadyIn (kept_of self.now) t }
         requires within { place < common_slots }
         ensures { (placement : Placement) (world : World) → IsReadyFor (kept_of self.now) placement world t
-            → IsCommonSlot placement world place result }
+            → IsSlotOf placement world 0 place result }
     {
         self.places.page_start(0, 0) + FIRST_SLOT + u64::from(place)
     }

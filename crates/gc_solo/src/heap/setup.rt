@@ -1,10 +1,12 @@
 //! How a heap is made: all memory is taken here, and the common object is made by nobody, in the first cell of page 0 of
 //! mutator 0.
-ghost use Rattle.std.specs.Prelude.{◌≡◌, ◌<◌, ℕ, [], length, IfOk};
+ghost use Rattle.std.specs.Prelude.{◌≡◌, ◌+◌, ◌<◌, ℕ, [], false, length, replicate, IfOk};
 ghost use Rattle.gc_bay.specs.Bay.{fresh_bay};
+ghost use Rattle.gc_layout.specs.Places.{IsWithinLimits, word_count};
+ghost use Rattle.gc_layout.specs.Types.{AreTypes};
 ghost use Rattle.gc_model.specs.World.{first_world};
 ghost use Rattle.gc_placement.specs.Placement.{Placement};
-ghost use Rattle.gc_solo.specs.Kept.{ShowsBy, bay_at, kept_of};
+ghost use Rattle.gc_solo.specs.Kept.{ShowsBy, bay_at, kept_of, most_mutators};
 
 use crate::heap::{Heap, MOST_MUTATORS};
 use gc_bay::Bay;
@@ -12,7 +14,7 @@ use gc_layout::{NoMemory, Places, Shape, TypeNo, Types};
 use std::alloc::Global;
 
 impl Heap {
-    /// The heap that shows the first world, with room for so many reports.
+    /// The heap that shows the first world, with room for so many reports. No page counts as given.
     pub(crate) fn make(
         alloc: Global,
         places: Places,
@@ -24,6 +26,7 @@ impl Heap {
         ensures reports { IfOk result (λ heap. heap.reports.items ≡ []) }
         ensures room { IfOk result (λ heap. heap.room ≡ reports) }
         ensures shown { IfOk result (λ heap. (placement : Placement) × ShowsBy (kept_of heap) placement (first_world places.mutators)) }
+        ensures given { IfOk result (λ heap. (t : ℕ) → t < places.mutators → (bay_at heap.bays.items t).given ≡ 0) }
     {
         let Ok(words) = vec![in alloc; 0; 1 + places.words() as usize] else {
             return Err(NoMemory);
@@ -44,8 +47,18 @@ impl Heap {
         Ok(heap)
     }
 
-    /// Makes the common object. Its page doesn't count as given.
-    fn make_common(&mut self) {
+    /// Makes the common object, where all bays are fresh. Its page doesn't count as given.
+    fn make_common(&mut self)
+        requires types { AreTypes self.old.types }
+        requires limits { IsWithinLimits self.old.places }
+        requires words { length self.old.words.items ≡ 1 + word_count self.old.places }
+        requires bays { length self.old.bays.items ≡ self.old.places.mutators }
+        requires fresh { (t : ℕ) → t < self.old.places.mutators → bay_at self.old.bays.items t ≡ fresh_bay self.old.places t }
+        requires blocked { self.old.blocked ≡ replicate most_mutators false }
+        ensures shown { (placement : Placement) × ShowsBy (kept_of self.new) placement (first_world self.new.places.mutators) }
+        ensures given { (t : ℕ) → t < self.new.places.mutators → (bay_at self.new.bays.items t).given ≡ 0 }
+        ensures rest { self.new ≡ record self.old { words = self.new.words; bays = self.new.bays } }
+    {
         let size = Shape::COMMON.size();
         let bay = &mut self.bays[0];
         let address = bay.cell(size).unwrap();
@@ -56,7 +69,8 @@ impl Heap {
 
 /// A list of the same types.
 fn copy_types(alloc: Global, types: &Types) -> Result<Types, NoMemory>
-    ensures { IfOk result (λ copy. copy ≡ types.now) }
+    ensures copy { IfOk result (λ copy. copy ≡ types.now) }
+    ensures types { IfOk result AreTypes }
 {
     let mut copy = Types::make(alloc)?;
     for shape in types.as_slice().iter().skip(1) {
@@ -66,10 +80,10 @@ fn copy_types(alloc: Global, types: &Types) -> Result<Types, NoMemory>
     Ok(copy)
 }
 
-/// A bay for each mutator.
+/// A fresh bay for each mutator.
 fn fresh_bays(alloc: Global, places: Places) -> Result<Vec<Bay>, NoMemory>
     ensures bays { IfOk result (λ bays. length bays.items ≡ places.mutators) }
-    ensures each { IfOk result (λ bays. (t : ℕ) → t < places.mutators → bay_at bays.items t ≡ fresh_bay places t) }
+    ensures fresh { IfOk result (λ bays. (t : ℕ) → t < places.mutators → bay_at bays.items t ≡ fresh_bay places t) }
 {
     let Ok(mut bays) = Vec::with_capacity(alloc, usize::from(places.mutators())) else {
         return Err(NoMemory);
