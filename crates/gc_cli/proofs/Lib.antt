@@ -1,3 +1,5 @@
 pub mod AllowedLemmas
 pub mod CommandLemmas
+pub mod Lists
 pub mod PlayLemmas
+pub mod TextLemmas

@@ -76,8 +76,6 @@ played-history kept opts script replies more same played = (
     fits = fits-in_order script.preamble.mutators script.lines more played.in_order played.collections;
     in_order = played.in_order;
   },
-  (
-    record { configuration_is = same; stands = played.stands },
-    played.replies_are ∙ sym (replies_by_line-front more script.lines (ends_of script.preamble.mutators) played.in_order),
-  ),
+  record { configuration_is = same; stands = played.stands },
+  played.replies_are ∙ sym (replies_by_line-front more script.lines (ends_of script.preamble.mutators) played.in_order),
 )

@@ -1,5 +1,5 @@
 //! Plays a script: each line's call in the order of the text, and then the End of each mutator.
-ghost use Rattle.std.specs.Prelude.{◌≡◌, ◌+◌, ◌<◌, ◌≤◌, ◌++◌, [], length, sum_by, take, IfOk, slice_get, Some};
+ghost use Rattle.std.specs.Prelude.{◌≡◌, ◌+◌, ◌<◌, ◌≤◌, ◌++◌, ◌∷◌, [], length, sum_by, take, IfOk, slice_get, Some};
 ghost use Rattle.gc_model.specs.History.{History, allowance_of, ends_of, replies_by_line};
 ghost use Rattle.gc_model.specs.declared.call.Line.{Line as CallLine};
 ghost use Rattle.gc_model.specs.declared.entry.Entry.TheVariants.{Made};

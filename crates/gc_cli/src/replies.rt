@@ -1,6 +1,6 @@
 //! The replies to the lines of a script.
 
-ghost use Rattle.std.specs.Prelude.{◌≡◌, ◌<◌, ◌≤◌, ◌++◌, ◌∷◌, ◌↔◌, [], length, slice_get, IfOk, IsNone, vec_capacity};
+ghost use Rattle.std.specs.Prelude.{◌≡◌, ◌<◌, ◌≤◌, ◌++◌, ◌∷◌, ◌↔◌, [], length, slice_get, IfOk, IsNone};
 
 use gc_layout::NoMemory;
 use gc_model::Reply;
@@ -15,13 +15,13 @@ pub struct Replies {
 }
 
 impl Model for Replies {
-    ghost use Rattle.gc_cli.specs.Replies.{ReplyList};
+    ghost use Rattle.gc_cli.specs.Replies.{ReplyList, list_of, HasItsRoom};
 
     ghost Value = { ReplyList };
 
-    ghost view = { λ replies. record { list = replies.items.items; room = replies.room } };
+    ghost view = { list_of };
 
-    ghost invariant = { λ replies. (length replies.items.items ≤ replies.room) × (replies.room ≤ vec_capacity replies.items) };
+    ghost invariant = { HasItsRoom };
 }
 
 impl Replies {

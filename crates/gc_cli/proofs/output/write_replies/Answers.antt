@@ -1,7 +1,8 @@
 -- the text so far, and the next line of it
 use Rattle.std.proofs.Common.{◌∙◌, arith, append_assoc}
 use Rattle.gc_io.proofs.StreamLemmas.{Appends-append, AppendsPrefix-behind}
-use Rattle.gc_cli.proofs.PlayLemmas.{slice_get-below, lines_text-next}
+use Rattle.gc_cli.proofs.Lists.{slice_get-below}
+use Rattle.gc_cli.proofs.TextLemmas.{lines_text-next}
 use Rattle.gc_cli.proofs.output.write_replies.Goals as goal
 
 pub returns-in-Failed-clause-part : goal.returns-in-Failed-clause-part
