@@ -50,7 +50,7 @@ made-kinds (object ∷ graph) t =
     ∙ sym (sum_by-cons (own_kind_words t) (kind_of object) (kinds_of graph))
 
 -- objects of the same kinds are as many words of a mutator's own
-pub made-same : (graph changed : Graph) → kinds_of changed ≡ kinds_of graph → (t : ℕ) → made_words changed t ≡ made_words graph t
+made-same : (graph changed : Graph) → kinds_of changed ≡ kinds_of graph → (t : ℕ) → made_words changed t ≡ made_words graph t
 made-same graph changed same t = made-kinds changed t ∙ ap (sum_by (own_kind_words t)) same ∙ sym (made-kinds graph t)
 
 -- what a new object adds to what a mutator made
