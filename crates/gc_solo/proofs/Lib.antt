@@ -2,6 +2,7 @@ pub mod Allocation
 pub mod Answered
 pub mod Fields
 pub mod First
+pub mod Fresh
 pub mod Interim
 pub mod Names
 pub mod Placed

@@ -63,8 +63,9 @@ returns-clause-answered c placement world ready =
     ) in
     let named : c.set_reg.new.self ≡ with_registers mid (slice_set mid.registers c.args.into c.in-Some.address) =
     rw c.index.ensures.index at c.set_reg.ensures.register in
-    let shown = shown-new kept placement world t c.args.into c.in-Some.address c.size-size.result c.args.ty c.write_fresh.new.self.words.items
-    mid c.set_reg.new.self ready (omega (arith, c.index.ensures.index, c.index.ensures.below)) c.requires.known size next fresh taken
+    let words = c.write_fresh.new.self.words.items in
+    let shown = shown-new kept placement world t c.args.into c.in-Some.address c.size-size.result c.args.ty words mid
+    c.set_reg.new.self ready (omega (arith, c.index.ensures.index, c.index.ensures.below)) c.requires.known size next fresh taken
     c.in-Some.ensures.bay named c.set_reg.ensures.bay c.write_fresh.ensures.written c.write_fresh.ensures.count in
     let call : Call = New c.args.into c.args.ty in
     let answer = effect kept.types world t (has_room kept.types kept.layout.nursery world t call) call in
