@@ -1,12 +1,12 @@
 -- One call after another, behind a history.
-use Rattle.std.proofs.Common.{◌≡◌, ◌∙◌, ℕ, ◌+◌, ◌≤◌, List, [], ◌∷◌, ◌++◌, append_assoc, filter, length, length-append, sum_by, take, refl, sym, ap, subst, arith}
+use Rattle.std.proofs.Common.{◌≡◌, ◌∙◌, ℕ, List, [], ◌∷◌, ◌++◌, append_assoc, filter, length, length-append, take, refl, sym, ap, subst, arith}
 use Rattle.std.proofs.lemmas.List.{append-nil}
 use Rattle.std.proofs.lemmas.List.Elements.{filter-append, filter_map-append}
 use Rattle.gc_model.specs.declared.call.Line.{Line}
 use Rattle.gc_model.specs.declared.entry.Entry.{Entry}
 use Rattle.gc_model.specs.declared.entry.Entry.TheVariants.{Made}
 use Rattle.gc_model.specs.declared.reply.Reply.{Reply}
-use Rattle.gc_model.specs.History.{Configuration, History, allowance_of, ends_of, is_collection, lines_in, made_line, made_reply, replies_by_line, replies_in}
+use Rattle.gc_model.specs.History.{Configuration, History, ends_of, is_collection, lines_in, made_line, made_reply, replies_by_line, replies_in}
 use Rattle.gc_model.specs.Legal.{IsLegal}
 use Rattle.gc_model.proofs.Histories.{collections-call, lines_in-more, replies_in-more}
 use Rattle.gc_model.proofs.Scripts.{fits-in_order, replies_by_line-front}

@@ -1,5 +1,5 @@
 -- The printed text.
-use Rattle.std.specs.Prelude.{ℕ, ◌+◌, List, [], ◌∷◌, ◌++◌, Option, None, Some, if◌then◌else◌, codes, decimal}
+use Rattle.std.specs.Prelude.{ℕ, ◌+◌, List, [], ◌∷◌, ◌++◌, if◌then◌else◌, codes, decimal}
 use Rattle.gc_model.specs.declared.entry.RunReport.{RunReport}
 use Rattle.gc_model.specs.declared.entry.RunReport.TheVariants as report
 use Rattle.gc_model.specs.declared.reply.Reply.{Reply}

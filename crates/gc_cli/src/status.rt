@@ -69,6 +69,16 @@ impl Outcome {
             left: Left::Nothing,
         }
     }
+
+    /// Ended so, with the heap on which the lines were played.
+    pub(crate) fn heap_left(status: Status, solo: Solo) -> Outcome
+        ensures { result ≡ record { status = status; left = Left.Solo solo } }
+    {
+        Outcome {
+            status,
+            left: Left::Solo(solo),
+        }
+    }
 }
 
 /// Writes the line of a status, as one piece; nothing for Done. Whatever comes of it, the status stays.

@@ -158,13 +158,9 @@ pub fn play_bytes<S: Source, K: Sink>(
         return Outcome::nothing_left(Status::NoMemory);
     };
     let Played { solo, replies } = played;
-    let status = match write_text(opts, &script, replies.as_slice(), solo.reports(), out) {
-        Put::All => Status::Done,
-        Put::Failed => Status::WriteFault,
-    };
-    Outcome {
-        status,
-        left: Left::Solo(solo),
+    match write_text(opts, &script, replies.as_slice(), solo.reports(), out) {
+        Put::All => Outcome::heap_left(Status::Done, solo),
+        Put::Failed => Outcome::heap_left(Status::WriteFault, solo),
     }
 }
 

@@ -1,0 +1,15 @@
+use Rattle.std.proofs.Common.{◌≡◌, length, take}
+use Rattle.gc_model.specs.History.{History, replies_in}
+use Rattle.gc_solo.specs.Stands.{StandsFor, Stays}
+use Rattle.gc_cli.specs.Played.{HasMade}
+use Rattle.gc_cli.proofs.play.play_lines.Given as goal
+
+-- behind each history the heap stands for the lines so far, with the replies that are listed
+abbrev pub invariant-loop-index : goal.invariant-loop-index
+invariant-loop-index l = record {
+  played : (history : History) → StandsFor l.fn.solo history
+      → (more : History) × HasMade l.solo history more (take l.index l.script.lines) × (replies_in more ≡ l.replies.list);
+  stays : Stays l.fn.solo l.solo;
+  answered : length l.replies.list ≡ l.index;
+  room : l.replies.room ≡ l.fn.replies.room;
+}
