@@ -96,8 +96,8 @@ fresh-next_cell n class some =
     position-none (λ page. has_room page class) pages free_page
     (λ k below. ap (λ (page : Page). has_room page class) (replicate-at n k free_page)) in
     let first : first_free_page pages ≡ Some 0 =
-    position-first is_free_page pages 0 free_page (omega (arith, some, length-replicate n free_page)) (λ k below. absurd (omega (arith, below)))
-    (ap is_free_page (replicate-at n 0 free_page)) in
+    position-first is_free_page pages 0 free_page (omega (arith, some, length-replicate n free_page))
+    (λ k below. absurd (omega (arith, below))) (ap is_free_page (replicate-at n 0 free_page)) in
     next-fresh pages class (Some 0) full first ∙ ap Some (omega arith)
 
 -- so a fresh bay's first cell is its next one

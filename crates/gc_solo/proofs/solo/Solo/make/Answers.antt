@@ -12,7 +12,8 @@ stands : (c : goal.In_ok-make) → StandsFor (kept_of c.in_ok-make.field-0) []
 stands c =
     let heap = c.in_ok-make.field-0 in
     let made = c.in_ok-make.ensures in
-    let shown = subst (λ (layout : Layout). ShowsBy (kept_of heap) made.shown.0 (first_world layout.mutators)) (sym made.places) made.shown.1 in
+    let Shown : Layout → Type 0 = λ layout. ShowsBy (kept_of heap) made.shown.0 (first_world layout.mutators) in
+    let shown : Shown heap.places = subst Shown (sym made.places) made.shown.1 in
     stands-none (kept_of heap) made.shown.0 shown made.reports
 
 pub invariant_of-result : goal.invariant_of-result
