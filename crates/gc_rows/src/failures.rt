@@ -8,8 +8,9 @@ use crate::doubles::{AskedSource, PieceSink};
 use crate::graph::graph_text;
 use crate::row::ONE_BOX;
 use crate::scripts::{EIGHT, ONE, TWO, drawn_script};
-use gc_cli::{Status, moar_gc, write_status};
-use gc_io::{MemorySink, MemorySource, OpenGate};
+use gc_cli::{Status, moar_gc, write_reports, write_status};
+use gc_io::{MemorySink, MemorySource, OpenGate, Put};
+use gc_model::RunReport;
 use std::alloc::{AllocError, Global};
 use std::process::Abort;
 use std::test::Fail;
@@ -57,6 +58,50 @@ const FIVE_REPLIES: &str = "4 nil base\n\
      6 done\n\
      7 7\n\
      8 no 7\n";
+
+/// What collections report.
+const REPORTS: [RunReport; 10] = [
+    RunReport::Minor,
+    RunReport::Full {
+        objects: 0,
+        words: 0,
+    },
+    RunReport::Full {
+        objects: 1,
+        words: 18,
+    },
+    RunReport::Minor,
+    RunReport::Minor,
+    RunReport::Full {
+        objects: u64::MAX,
+        words: 0,
+    },
+    RunReport::Full {
+        objects: 7,
+        words: u64::MAX,
+    },
+    RunReport::Full {
+        objects: u64::MAX,
+        words: u64::MAX,
+    },
+    RunReport::Minor,
+    RunReport::Full {
+        objects: u64::MAX,
+        words: u64::MAX,
+    },
+];
+
+/// The lines of these reports.
+const REPORT_LINES: &str = "run 1 minor\n\
+     run 2 full objects 0 words 0\n\
+     run 3 full objects 1 words 18\n\
+     run 4 minor\n\
+     run 5 minor\n\
+     run 6 full objects 18446744073709551615 words 0\n\
+     run 7 full objects 7 words 18446744073709551615\n\
+     run 8 full objects 18446744073709551615 words 18446744073709551615\n\
+     run 9 minor\n\
+     run 10 full objects 18446744073709551615 words 18446744073709551615\n";
 
 impl<'a> Trial<'a> {
     /// A script that is played, where nothing fails.
@@ -329,5 +374,39 @@ fn each_reply_of_a_long_script_is_one_piece(rt: HostRuntime) -> Result<(), Fail>
         let ended = Trial::plays(script).run(&rt)?;
         ended.check(&rt, Status::Done, 2, pieces.as_str(), "");
     }
+    Ok(())
+}
+
+/// Writes the reports to a sink whose calls with these numbers fail.
+fn check_reports<R: Abort + AllocGlobal>(rt: &R, writes: Calls) -> Result<(), Fail> {
+    let alloc = rt.alloc();
+    let mut out = sink(alloc, writes)?;
+    let put = write_reports(&REPORTS, &mut out);
+    let pieces = pieces_until(alloc, REPORT_LINES, writes.first)?;
+    let expected = if writes.first as usize <= REPORTS.len() {
+        Put::Failed
+    } else {
+        Put::All
+    };
+    assert_eq!(rt; put, expected);
+    assert_eq!(rt; out.pieces(), pieces.as_bytes());
+    Ok(())
+}
+
+#[test]
+fn each_report_is_one_piece_and_fails_in_turn(rt: HostRuntime) -> Result<(), Fail> {
+    for first in 1..=11 {
+        for last in first..=11 {
+            check_reports(&rt, Calls { first, last })?;
+        }
+    }
+    Ok(())
+}
+
+#[test]
+fn no_report_is_no_piece(rt: HostRuntime) -> Result<(), Fail> {
+    let mut out = sink(rt.alloc(), Calls { first: 1, last: 9 })?;
+    assert_eq!(rt; write_reports(&[], &mut out), Put::All);
+    assert_eq!(rt; out.pieces().len(), 0);
     Ok(())
 }

@@ -19,6 +19,8 @@ mod failures;
 #[cfg(test)]
 mod graph;
 #[cfg(test)]
+mod options;
+#[cfg(test)]
 mod refusals;
 #[cfg(test)]
 mod row;

@@ -8,9 +8,10 @@ ghost use Rattle.gc_script.specs.Script.{Script};
 ghost use Rattle.gc_script.specs.Text.{most_bytes};
 ghost use Rattle.gc_cli.specs.Causes.{IsOrNoMemory};
 ghost use Rattle.gc_cli.specs.Command.{request_of, status_line};
-ghost use Rattle.gc_cli.specs.Played.{IsHistoryOf, default_opts};
+ghost use Rattle.gc_cli.specs.Played.{AreAllowed, IsHistoryOf};
 ghost use Rattle.gc_cli.specs.Text.{text_of};
 ghost use Rattle.gc_cli.specs.declared.command.Request.TheVariants.{Play};
+ghost use Rattle.gc_cli.specs.declared.opts.Opts.{Opts};
 
 use gc_cli::{Left, Outcome, Status, moar_gc};
 use gc_io::{MemorySink, MemorySource, OpenGate};
@@ -25,13 +26,17 @@ pub fn run_in_memory<R>(
     out: &mut MemorySink,
     err: &mut MemorySink,
 ) -> Outcome
-    // Where it is done, all that the source had is a script, and the output has got the replies of a legal
-    // history that fits it.
+    // Where it is done, the words ask for a script to be played by some options, all that the source had is a
+    // script, and the output has got the text of a legal history that fits it, by these options.
     ensures done { result.status ≡ Status.Done
-        → ((script : Script) × (history : History) × IsScript src.old.rest script
-        × IsHistoryOf default_opts script history
-        × (out.new.written ≡ out.old.written ++ text_of script history)) }
+        → ((opts : Opts) × (script : Script) × (history : History)
+        × (request_of (map string_bytes words.now) ≡ Some (Play opts)) × IsScript src.old.rest script
+        × IsHistoryOf opts script history
+        × (out.new.written ≡ out.old.written ++ text_of opts script history)) }
     ensures done_reads_all { result.status ≡ Status.Done → src.new.rest ≡ [] }
+
+    // The words ask for no options beyond their limits.
+    ensures allowed { (opts : Opts) → request_of (map string_bytes words.now) ≡ Some (Play opts) → AreAllowed opts }
 
     // Usage is answered exactly where the words are no command line.
     ensures usage { (result.status ≡ Status.Usage) ↔ (request_of (map string_bytes words.now) ≡ None) }
@@ -41,7 +46,7 @@ pub fn run_in_memory<R>(
     ensures bad { (line cause : ℕ) → result.status ≡ Status.Bad line cause
         → IsFirstFault src.old.rest line cause }
     ensures bad_reads_all { (line cause : ℕ) → result.status ≡ Status.Bad line cause → src.new.rest ≡ [] }
-    ensures bad_is_told { (line cause : ℕ) → request_of (map string_bytes words.now) ≡ Some Play
+    ensures bad_is_told { (opts : Opts) (line cause : ℕ) → request_of (map string_bytes words.now) ≡ Some (Play opts)
         → ¬ HasRisen src.old.faults src.new.faults → length src.old.rest ≤ most_bytes
         → IsFirstFault src.old.rest line cause → IsOrNoMemory (Status.Bad line cause) result.status }
 
@@ -49,7 +54,7 @@ pub fn run_in_memory<R>(
     ensures long { result.status ≡ Status.Long → most_bytes < length src.old.rest }
     ensures long_stops { result.status ≡ Status.Long
         → ((bytes : List ℕ) × (length bytes ≡ most_bytes + 1) × (src.old.rest ≡ bytes ++ src.new.rest)) }
-    ensures long_is_told { request_of (map string_bytes words.now) ≡ Some Play
+    ensures long_is_told { (opts : Opts) → request_of (map string_bytes words.now) ≡ Some (Play opts)
         → ¬ HasRisen src.old.faults src.new.faults → most_bytes < length src.old.rest
         → IsOrNoMemory Status.Long result.status }
 
@@ -61,13 +66,14 @@ pub fn run_in_memory<R>(
     // So is a fault of the output, which has then got a first part of the text.
     ensures write_fault { result.status ≡ Status.WriteFault → HasRisen out.old.faults out.new.faults }
     ensures write_part { result.status ≡ Status.WriteFault
-        → ((script : Script) × (history : History) × (count : ℕ) × IsScript src.old.rest script
-        × IsHistoryOf default_opts script history
-        × (out.new.written ≡ out.old.written ++ take count (text_of script history))) }
+        → ((opts : Opts) × (script : Script) × (history : History) × (count : ℕ)
+        × (request_of (map string_bytes words.now) ≡ Some (Play opts)) × IsScript src.old.rest script
+        × IsHistoryOf opts script history
+        × (out.new.written ≡ out.old.written ++ take count (text_of opts script history))) }
     ensures write_fault_reads_all { result.status ≡ Status.WriteFault → src.new.rest ≡ [] }
 
     // A script is played where no fault is counted, or memory is wanting.
-    ensures complete { (script : Script) → request_of (map string_bytes words.now) ≡ Some Play
+    ensures complete { (opts : Opts) (script : Script) → request_of (map string_bytes words.now) ≡ Some (Play opts)
         → ¬ HasRisen src.old.faults src.new.faults → length src.old.rest ≤ most_bytes
         → IsScript src.old.rest script → ¬ HasRisen out.old.faults out.new.faults
         → IsOrNoMemory Status.Done result.status }

@@ -108,29 +108,11 @@ fn words_are_refused(rt: HostRuntime) -> Result<(), Fail> {
         Row::misuses("an unknown word", &["run"], ONE_BOX),
         Row::misuses("an empty word", &[""], ONE_BOX),
         Row::misuses("a word more", &["play", "play"], ONE_BOX),
-        Row::misuses(
-            "a half below its limit",
-            &["play", "--nursery", "63"],
-            ONE_BOX,
-        ),
-        Row::misuses(
-            "more pages than there may be",
-            &["play", "--pages", "129"],
-            ONE_BOX,
-        ),
-        Row::misuses(
-            "an option twice",
-            &["play", "--reports", "--reports"],
-            ONE_BOX,
-        ),
-        Row::misuses("two dashes", &["play", "--"], ONE_BOX),
+        Row::misuses("a mode in capitals", &["Play"], ONE_BOX),
+        Row::misuses("an option before the mode", &["--reports", "play"], ONE_BOX),
+        Row::misuses("a mode that isn't built yet", &["make", "1"], ONE_BOX),
         Row::misuses("no rounds", &["make", "0"], ONE_BOX),
         Row::misuses("a leading zero", &["make", "064"], ONE_BOX),
-        Row::misuses(
-            "an option that isn't built yet",
-            &["play", "--reports"],
-            ONE_BOX,
-        ),
     ] {
         row.check(&rt)?;
     }

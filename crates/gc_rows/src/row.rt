@@ -81,6 +81,11 @@ impl Row {
         }
     }
 
+    /// The same script with these words.
+    pub fn with_words(self, words: &'static [&'static str]) -> Row {
+        Row { words, ..self }
+    }
+
     /// The same script from a source that gives at most so many bytes a call.
     pub fn with_step(self, step: usize) -> Row {
         Row { step, ..self }
