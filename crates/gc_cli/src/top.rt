@@ -37,7 +37,8 @@ pub fn moar_gc<R, S: Source, K: Sink, E: Sink, G: Gate + Sync>(
     _gate: &G,
 ) -> Outcome
     // The words ask for a script to be played by some options. The source was read to its end, its bytes are a
-    // script, and the sink got the text of a legal history that fits the script, by these options.
+    // script, and the sink got the text of a legal history that fits the script, by these options. The heap that is
+    // left stands for that history.
     ensures done { result.status ≡ Status.Done
         → ((opts : PlayOpts) × (bytes : List ℕ) × (script : Text) × (history : History)
         × (request_of (map string_bytes args.now) ≡ Some (Request.Play opts))
@@ -80,7 +81,7 @@ pub fn moar_gc<R, S: Source, K: Sink, E: Sink, G: Gate + Sync>(
     ensures src_quiet { result.status ≢ Status.ReadFault → S.faults src.new ≡ S.faults src.old }
     ensures out_quiet { result.status ≢ Status.WriteFault → K.faults out.new ≡ K.faults out.old }
 
-    // Unless something was played and written, the sink is as before.
+    // Unless something was played and written, the sink is as before, and no heap is left.
     ensures untouched { result.status ≢ Status.Done → result.status ≢ Status.WriteFault → out.new ≡ out.old }
     ensures left { result.status ≢ Status.Done → result.status ≢ Status.WriteFault → result.left ≡ Left.Nothing }
 
@@ -112,7 +113,7 @@ pub fn play_bytes<S: Source, K: Sink>(
     requires { AreAllowed opts.now }
 
     // The source was read to its end, its bytes are a script, and the sink got the text of a legal history that
-    // fits the script.
+    // fits the script. The heap that is left stands for that history.
     ensures done { result.status ≡ Status.Done
         → ((bytes : List ℕ) × (script : Text) × (history : History) × Plays opts.now (S.rest src.old) (S.rest src.new)
         (K.written out.old) (K.written out.new) result.left bytes script history) }
@@ -144,7 +145,7 @@ pub fn play_bytes<S: Source, K: Sink>(
     ensures src_quiet { result.status ≢ Status.ReadFault → S.faults src.new ≡ S.faults src.old }
     ensures out_quiet { result.status ≢ Status.WriteFault → K.faults out.new ≡ K.faults out.old }
 
-    // Unless something was played and written, the sink is as before.
+    // Unless something was played and written, the sink is as before, and no heap is left.
     ensures untouched { result.status ≢ Status.Done → result.status ≢ Status.WriteFault → out.new ≡ out.old }
     ensures left { result.status ≢ Status.Done → result.status ≢ Status.WriteFault → result.left ≡ Left.Nothing }
     ensures src_never_falls { S.faults src.old ≤ S.faults src.new }

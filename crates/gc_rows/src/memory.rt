@@ -8,7 +8,7 @@ ghost use Rattle.gc_script.specs.Script.{Script};
 ghost use Rattle.gc_script.specs.Text.{most_bytes};
 ghost use Rattle.gc_cli.specs.Causes.{IsOrNoMemory};
 ghost use Rattle.gc_cli.specs.Command.{request_of, status_line};
-ghost use Rattle.gc_cli.specs.Played.{AreAllowed, IsHistoryOf};
+ghost use Rattle.gc_cli.specs.Played.{AreAllowed, IsHistoryOf, LeavesHeap, heap_for};
 ghost use Rattle.gc_cli.specs.Text.{text_of};
 ghost use Rattle.gc_cli.specs.declared.command.Request.TheVariants.{Play};
 ghost use Rattle.gc_cli.specs.declared.opts.Opts.{Opts};
@@ -27,11 +27,12 @@ pub fn run_in_memory<R>(
     err: &mut MemorySink,
 ) -> Outcome
     // Where it is done, the words ask for a script to be played by some options, all that the source had is a
-    // script, and the output has got the text of a legal history that fits it, by these options.
+    // script, and the output has got the text of a legal history that fits it, by these options. The heap that is
+    // left stands for that history.
     ensures done { result.status ≡ Status.Done
         → ((opts : Opts) × (script : Script) × (history : History)
         × (request_of (map string_bytes words.now) ≡ Some (Play opts)) × IsScript src.old.rest script
-        × IsHistoryOf opts script history
+        × IsHistoryOf opts script history × LeavesHeap result.left (heap_for opts script) history
         × (out.new.written ≡ out.old.written ++ text_of opts script history)) }
     ensures done_reads_all { result.status ≡ Status.Done → src.new.rest ≡ [] }
 
@@ -68,7 +69,7 @@ pub fn run_in_memory<R>(
     ensures write_part { result.status ≡ Status.WriteFault
         → ((opts : Opts) × (script : Script) × (history : History) × (count : ℕ)
         × (request_of (map string_bytes words.now) ≡ Some (Play opts)) × IsScript src.old.rest script
-        × IsHistoryOf opts script history
+        × IsHistoryOf opts script history × LeavesHeap result.left (heap_for opts script) history
         × (out.new.written ≡ out.old.written ++ take count (text_of opts script history))) }
     ensures write_fault_reads_all { result.status ≡ Status.WriteFault → src.new.rest ≡ [] }
 
@@ -82,7 +83,7 @@ pub fn run_in_memory<R>(
     ensures src_quiet { result.status ≢ Status.ReadFault → src.new.faults ≡ src.old.faults }
     ensures out_quiet { result.status ≢ Status.WriteFault → out.new.faults ≡ out.old.faults }
     ensures untouched { result.status ≢ Status.Done → result.status ≢ Status.WriteFault → out.new ≡ out.old }
-    ensures left { result.left ≡ Left.Nothing }
+    ensures left { result.status ≢ Status.Done → result.status ≢ Status.WriteFault → result.left ≡ Left.Nothing }
 
     // The line of the status goes to standard error, whole where no fault was counted there.
     ensures told { ¬ HasRisen err.old.faults err.new.faults

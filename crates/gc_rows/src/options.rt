@@ -24,11 +24,7 @@ fn options_are_refused(rt: HostRuntime) -> Result<(), Fail> {
         Row::misuses("one dash", &["play", "-reports"], ONE_BOX),
         Row::misuses("an option in capitals", &["play", "--REPORTS"], ONE_BOX),
         Row::misuses("an option and more", &["play", "--reports "], ONE_BOX),
-        Row::misuses(
-            "the value in the word",
-            &["play", "--nursery=64"],
-            ONE_BOX,
-        ),
+        Row::misuses("the value in the word", &["play", "--nursery=64"], ONE_BOX),
         Row::misuses(
             "the reports twice",
             &["play", "--reports", "--reports"],
@@ -219,12 +215,30 @@ fn a_half_has_the_words_that_are_asked_for(rt: HostRuntime) -> Result<(), Fail> 
 #[test]
 fn options_stand_in_any_order(rt: HostRuntime) -> Result<(), Fail> {
     for room in [
-        Room::new(&["play", "--nursery", "64", "--pages", "128", "--reports"], 16),
-        Room::new(&["play", "--nursery", "64", "--reports", "--pages", "128"], 16),
-        Room::new(&["play", "--pages", "128", "--nursery", "64", "--reports"], 16),
-        Room::new(&["play", "--pages", "128", "--reports", "--nursery", "64"], 16),
-        Room::new(&["play", "--reports", "--nursery", "64", "--pages", "128"], 16),
-        Room::new(&["play", "--reports", "--pages", "128", "--nursery", "64"], 16),
+        Room::new(
+            &["play", "--nursery", "64", "--pages", "128", "--reports"],
+            16,
+        ),
+        Room::new(
+            &["play", "--nursery", "64", "--reports", "--pages", "128"],
+            16,
+        ),
+        Room::new(
+            &["play", "--pages", "128", "--nursery", "64", "--reports"],
+            16,
+        ),
+        Room::new(
+            &["play", "--pages", "128", "--reports", "--nursery", "64"],
+            16,
+        ),
+        Room::new(
+            &["play", "--reports", "--nursery", "64", "--pages", "128"],
+            16,
+        ),
+        Room::new(
+            &["play", "--reports", "--pages", "128", "--nursery", "64"],
+            16,
+        ),
     ] {
         room.check(&rt)?;
     }

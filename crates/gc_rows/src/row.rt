@@ -27,6 +27,9 @@ pub const ONE_BOX_OUTPUT: &str = "4 done\n\
 /// The words of most rows.
 const PLAY: &[&str] = &["play"];
 
+/// The words for the least heap.
+const PLAY_SMALL: &[&str] = &["play", "--nursery", "64", "--pages", "1"];
+
 /// A worked row: what is handed to the top call, and what comes of it.
 #[derive(Clone, Copy)]
 pub struct Row {
@@ -89,6 +92,12 @@ impl Row {
     /// The same script from a source that gives at most so many bytes a call.
     pub fn with_step(self, step: usize) -> Row {
         Row { step, ..self }
+    }
+
+    /// Checks the row, and then the same on the least heap, which its objects fit.
+    pub fn check_small_too<R: Abort + AllocGlobal>(&self, rt: &R) -> Result<(), Fail> {
+        self.check(rt)?;
+        self.with_words(PLAY_SMALL).check(rt)
     }
 
     /// Hands the row to the top call, and compares what comes of it.

@@ -82,7 +82,7 @@ fn scripts_are_played(rt: HostRuntime) -> Result<(), Fail> {
              11 7\n",
         ),
     ] {
-        row.check(&rt)?;
+        row.check_small_too(&rt)?;
     }
     Ok(())
 }
@@ -208,7 +208,7 @@ fn slots_are_loaded_and_stored(rt: HostRuntime) -> Result<(), Fail> {
              12 range\n",
         ),
     ] {
-        row.check(&rt)?;
+        row.check_small_too(&rt)?;
     }
     Ok(())
 }
@@ -253,7 +253,7 @@ fn numbers_are_swapped(rt: HostRuntime) -> Result<(), Fail> {
              10 0\n",
         ),
     ] {
-        row.check(&rt)?;
+        row.check_small_too(&rt)?;
     }
     Ok(())
 }
@@ -315,7 +315,7 @@ fn registers_are_compared_and_copied(rt: HostRuntime) -> Result<(), Fail> {
              12 yes\n",
         ),
     ] {
-        row.check(&rt)?;
+        row.check_small_too(&rt)?;
     }
     Ok(())
 }
@@ -401,7 +401,7 @@ fn the_common_object_is_shared(rt: HostRuntime) -> Result<(), Fail> {
              11 no\n",
         ),
     ] {
-        row.check(&rt)?;
+        row.check_small_too(&rt)?;
     }
     Ok(())
 }
@@ -472,7 +472,7 @@ fn a_blocked_mutator_is_refused(rt: HostRuntime) -> Result<(), Fail> {
              14 nil\n",
         ),
     ] {
-        row.check(&rt)?;
+        row.check_small_too(&rt)?;
     }
     Ok(())
 }
@@ -563,7 +563,7 @@ fn mutators_have_registers_of_their_own(rt: HostRuntime) -> Result<(), Fail> {
              12 9\n",
         ),
     ] {
-        row.check(&rt)?;
+        row.check_small_too(&rt)?;
     }
     Ok(())
 }
