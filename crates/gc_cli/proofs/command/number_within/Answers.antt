@@ -36,6 +36,10 @@ returns-clause-value c =
     let number : result_ok c.parse.result ≡ Some c.in_ok-number.number = cc (c.ok.ensures.value, c.in_ok-number.was) in
     let all = is ∙ ap (within c.args.least c.args.most) number in
     elim c.if-least-number.branch [
-      | then-least-number w ↦ c.then_some.ensures ∙ then_some-from _ c.args.least c.args.most _ w.if-least-number.true w.then_some-is ∙ sym all
-      | else-least-number w ↦ c.then_some.ensures ∙ then_some-below _ c.args.least c.args.most _ w.if-least-number.false w.then_some-is ∙ sym all
+      | then-least-number w ↦
+          let least = w.if-least-number.true in
+          c.then_some.ensures ∙ then_some-from _ c.args.least c.args.most _ least w.then_some-is ∙ sym all
+      | else-least-number w ↦
+          let least = w.if-least-number.false in
+          c.then_some.ensures ∙ then_some-below _ c.args.least c.args.most _ least w.then_some-is ∙ sym all
     ]
