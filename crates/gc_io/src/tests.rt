@@ -298,7 +298,7 @@ fn any_number_of_faults_is_told_one_by_one(rt: HostRuntime) {
 
 #[test]
 fn rooms_and_pieces_of_each_length_are_moved(rt: HostRuntime) -> Result<(), Fail> {
-    for length in (1..=300).chain(65_530..=65_540) {
+    for length in (1..=1_100).chain(65_530..=65_540) {
         assert!(rt; length > 0);
         let piece = vec![in rt.alloc(); b'x'; length]?;
         let mut room = vec![in rt.alloc(); b'.'; length]?;
