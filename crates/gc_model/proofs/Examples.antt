@@ -12,10 +12,9 @@ use Rattle.gc_model.specs.declared.entry.RunReport.TheVariants as report
 use Rattle.gc_model.specs.declared.reply.Reply.TheVariants.{Done, Full, Number, Yes, NilBase, NotBlocked}
 use Rattle.gc_model.specs.Answer.{answer, IsFit}
 use Rattle.gc_model.specs.Examples.{sample_types, box, pair, line_of, world_after_calls}
-use Rattle.gc_model.specs.Graph.{Graph, made_words}
+use Rattle.gc_model.specs.Graph.{Graph}
 use Rattle.gc_model.specs.History.{Configuration, History, FitsScript, world_after, calls_of, calls_in, lines_in, replies_in, replies_by_line, ends_of, allowance_of}
-use Rattle.gc_model.specs.Interim.{FullAboveHalf}
-use Rattle.gc_model.specs.Legal.{KeepsSize, CollectFollowsFull, ReportCountsReachable}
+use Rattle.gc_model.specs.Legal.{KeepsSize, FullLeavesNoPlace, CollectFollowsFull, ReportCountsReachable}
 use Rattle.gc_model.specs.Reach.{Tracing, every, is_reached_in, is_reached, live, own_words}
 use Rattle.gc_model.specs.Step.{IsStep, unchanged, mutator_changed, slot_changed, number_changed, object_added}
 use Rattle.gc_model.specs.World.{World, named_by}
@@ -73,12 +72,11 @@ shared_pair =
 what_is_shared_is_live : live (world_after two_mutators shared_pair) ≡ record { objects = 4; words = 29 }
 what_is_shared_is_live = refl
 
--- a mutator's own words are of what it made and what is reachable, whoever names it; the words that it made are of all
+-- a mutator's own words are of what it made and what is reachable, whoever names it
 own_words_are_of_the_maker :
     (own_words (world_after two_mutators shared_pair) 0 ≡ 7)
-    × ((own_words (world_after two_mutators shared_pair) 1 ≡ 4)
-    × (made_words (world_after two_mutators shared_pair).graph 1 ≡ 7))
-own_words_are_of_the_maker = (refl, (refl, refl))
+    × (own_words (world_after two_mutators shared_pair) 1 ≡ 4)
+own_words_are_of_the_maker = (refl, refl)
 
 -- an end drops what its mutator's registers name, and leaves what is shared
 an_end_drops_what_registers_name :
@@ -106,12 +104,32 @@ the_size_counts_one_half_and_all_pages :
     × (KeepsSize two_mutators [] (Made 0 (New 0 box) Full) ≡ Unit {0}))
 the_size_counts_one_half_and_all_pages = (refl, (refl, refl))
 
--- as long as nothing is collected, what a mutator made and the new object are held against one half
-full_is_above_a_half :
-    (FullAboveHalf two_mutators shared_pair (Made 1 (New 0 box) Done) ≡ (10 ≤ 64))
-    × ((FullAboveHalf two_mutators shared_pair (Made 1 (New 0 box) Full) ≡ (64 < 10))
-    × (FullAboveHalf two_mutators shared_pair (Made 0 (New 0 pair) Full) ≡ (64 < 11)))
-full_is_above_a_half = (refl, (refl, refl))
+-- two mutators again, with halves of 6 words
+abbrev small_halves : Configuration
+small_halves = record { types = sample_types; mutators = 2; nursery = 6; pages = 3 }
+
+-- a box that is reachable and a pair don't fit a half together: so full may be answered behind a full collection, whatever another
+-- mutator did since
+full_behind_a_full_collection :
+    FullLeavesNoPlace small_halves (Made 0 (New 0 box) Done ∷ Run (report.Full 2 21) ∷ Made 1 Safepoint Done ∷ [])
+    (Made 0 (New 1 pair) Full)
+full_behind_a_full_collection =
+    let own : own_words (world_after small_halves (Made 0 (New 0 box) Done ∷ [])) 0 ≡ 3 = refl in
+    record {
+      behind = record {
+        front = Made 0 (New 0 box) Done ∷ [];
+        objects = 2;
+        words = 21;
+        back = Made 1 Safepoint Done ∷ [];
+        split = refl;
+        last = refl;
+        own = refl;
+      };
+      full = omega (arith, own);
+    }
+
+a_new_that_is_done_follows_anything : FullLeavesNoPlace two_mutators [] (Made 0 (New 0 pair) Done)
+a_new_that_is_done_follows_anything = tt
 
 -- a full report counts what is reachable where it stands
 a_full_report_counts_the_reachable : ReportCountsReachable two_mutators shared_pair (Run (report.Full 4 29))

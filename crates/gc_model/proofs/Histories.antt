@@ -1,20 +1,29 @@
 -- Histories, by their last entry: what holds of a history with one more entry behind it.
-use Rattle.std.proofs.Common.{◌≡◌, ◌∙◌, ◌↔◌, ℕ, ◌+◌, Bool, true, false, Option, None, Some, List, [], ◌∷◌, ◌++◌, All, length, length-append, filter, append_assoc, refl, ap, sym, subst}
+use Rattle.std.proofs.Common.{◌≡◌, ◌∙◌, ◌↔◌, ℕ, ◌+◌, ◌<◌, Bool, true, false, Option, None, Some, List, [], ◌∷◌, ◌++◌, All, length, length-append, filter, append_assoc, refl, ap, sym, subst}
 use Rattle.std.proofs.lemmas.List.{append-nil}
 use Rattle.std.proofs.lemmas.List.Elements.{All-cons, All-nil, filter-append, filter_map-append}
+use Rattle.std.proofs.lemmas.List.Folds.{list_any-append}
 use Rattle.std.proofs.lemmas.List.Sums.{fold_push}
+use Rattle.std.proofs.lemmas.Bool.{or_right}
+use Rattle.std.specs.Prelude.{if◌then◌else◌}
+use Rattle.std.specs.List.{list_any}
+use Rattle.gc_layout.specs.Shape.{size_of}
+use Rattle.gc_layout.specs.declared.shape.TypeNo.{TypeNo}
+use Rattle.gc_model.specs.declared.entry.RunReport.TheVariants as report_kind
 use Rattle.std.specs.List.{cons_option}
 use Rattle.gc_layout.specs.declared.shape.Shape.{Shape}
 use Rattle.gc_model.specs.declared.call.Call.{Call}
-use Rattle.gc_model.specs.declared.call.Call.TheVariants.{New}
+use Rattle.gc_model.specs.declared.call.Call.TheVariants.{New, Collect}
 use Rattle.gc_model.specs.declared.entry.Entry.{Entry}
 use Rattle.gc_model.specs.declared.entry.Entry.TheVariants.{Made, Run}
 use Rattle.gc_model.specs.declared.entry.RunReport.{RunReport}
 use Rattle.gc_model.specs.declared.reply.Reply.{Reply}
-use Rattle.gc_model.specs.Answer.{Answer, answer, blocked_refusal, effect, unless_refused}
-use Rattle.gc_model.specs.History.{is_done, Configuration, History, EachEntry, calls_of, is_collection, lines_in, made_line, made_reply, own_call, own_reply, replies_in, replies_to, world_after, world_after_entry}
+use Rattle.gc_model.specs.declared.reply.Reply.TheVariants.{Done, Full}
+use Rattle.gc_model.specs.Answer.{IsFit, Answer, answer, blocked_refusal, effect, shape_at, unless_refused}
+use Rattle.gc_model.specs.History.{is_done, Configuration, History, EachEntry, calls_of, is_collection, is_own, since_last, lines_in, made_line, made_reply, own_call, own_reply, replies_in, replies_to, world_after, world_after_entry}
 use Rattle.gc_model.specs.Laws.{IsFitEntry}
-use Rattle.gc_model.specs.Legal.{IsLegal, MayFollow, ReplyIsTheGraphs, KeepsSize, CollectFollowsFull, ReportCountsReachable}
+use Rattle.gc_model.specs.Legal.{IsLegal, MayFollow, ReplyIsTheGraphs, KeepsSize, FullLeavesNoPlace, CollectFollowsFull, ReportCountsReachable, is_full_collection}
+use Rattle.gc_model.specs.Reach.{live, own_words}
 use Rattle.gc_model.specs.World.{World, first_world, is_blocked}
 
 -- the world after one more entry
@@ -152,3 +161,54 @@ pub collections-run : (history : History) (report : RunReport)
     → length (filter is_collection (history ++ Run report ∷ [])) ≡ length (filter is_collection history) + 1
 collections-run history report =
     ap length (filter-append is_collection history (Run report ∷ [])) ∙ length-append (filter is_collection history) (Run report ∷ [])
+
+-- the entry of a call may follow that is fit and answered as the graph answers it, where the heap's size is kept, and the rules
+-- on full and on collects are met
+pub call-follows : (heap : Configuration) (before : History) (t : ℕ) (call : Call) (reply : Reply) (room : Bool)
+    → IsFit heap.types heap.mutators t call → reply ≡ (answer heap.types (world_after heap before) t call room).reply
+    → KeepsSize heap before (Made t call reply) → FullLeavesNoPlace heap before (Made t call reply)
+    → CollectFollowsFull heap before (Made t call reply) → MayFollow heap before (Made t call reply)
+call-follows heap before t call reply room fit same size full collect =
+    record { replies = (fit, (room, same)); size = size; full = full; collect = collect; reports = tt }
+
+-- a minor collection may stand anywhere
+pub minor-follows : (heap : Configuration) (before : History) → MayFollow heap before (Run report_kind.Minor)
+minor-follows heap before = record { replies = tt; size = tt; full = tt; collect = tt; reports = tt }
+
+-- a full one may where it counts what is reachable
+pub full-follows : (heap : Configuration) (before : History) (objects words : ℕ)
+    → live (world_after heap before) ≡ record { objects = objects; words = words }
+    → MayFollow heap before (Run (report_kind.Full objects words))
+full-follows heap before objects words counts = record { replies = tt; size = tt; full = tt; collect = tt; reports = counts }
+
+-- what stands behind the last entry of a mutator's own, with one more entry that isn't its own
+since_last-more : (t : ℕ) (history : History) (entry : Entry) → is_own t entry ≡ false
+    → since_last t (history ++ entry ∷ []) ≡ since_last t history ++ entry ∷ []
+since_last-more t history entry other =
+    fold_push (λ since each. if is_own t each then [] else since ++ each ∷ []) [] history entry ∙ rw other refl
+
+-- behind a full collection a new object may be refused that doesn't fit a half together with its mutator's reachable words
+pub full-behind_full : (heap : Configuration) (before : History) (objects words t into : ℕ) (ty : TypeNo)
+    → heap.nursery < own_words (world_after heap before) t + size_of (shape_at heap.types ty.0)
+    → FullLeavesNoPlace heap (before ++ Run (report_kind.Full objects words) ∷ []) (Made t (New into ty) Full)
+full-behind_full heap before objects words t into ty more = record {
+  behind = record {
+    front = before;
+    objects = objects;
+    words = words;
+    back = [];
+    split = refl;
+    last = refl;
+    own = refl;
+  };
+  full = more;
+}
+
+-- and a collect is done
+pub collect-behind_full : (heap : Configuration) (before : History) (objects words t : ℕ)
+    → CollectFollowsFull heap (before ++ Run (report_kind.Full objects words) ∷ []) (Made t Collect Done)
+collect-behind_full heap before objects words t =
+    let entry : Entry = Run (report_kind.Full objects words) in
+    subst (λ (since : History). list_any is_full_collection since ≡ true) (sym (since_last-more t before entry refl))
+    (list_any-append is_full_collection (since_last t before) (entry ∷ [])
+    ∙ or_right (list_any is_full_collection (since_last t before)) true refl)

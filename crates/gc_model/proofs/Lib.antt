@@ -1,7 +1,7 @@
 pub mod EveryStep
 pub mod Histories
-pub mod Interim
 pub mod Lists
+pub mod Makers
 pub mod Objects
 pub mod Reached
 pub mod Rounds

@@ -15,7 +15,6 @@ use Rattle.gc_model.specs.declared.entry.RunReport.{RunReport}
 use Rattle.gc_model.specs.declared.reply.Reply.{Reply}
 use Rattle.gc_model.specs.declared.reply.Reply.TheVariants.{Done}
 use Rattle.gc_model.specs.Answer.{IsFit}
-use Rattle.gc_model.specs.Built.{IsBuilt}
 use Rattle.gc_model.specs.History.{History, FitsScript, allowance_of, calls_in, calls_of, ends_of, is_collection, is_line_of, lines_in, own_reply, replies_by_line, replies_in, replies_to}
 use Rattle.gc_model.proofs.Histories.{replies_to-more}
 
@@ -91,11 +90,6 @@ ends-fit_below types mutators (suc count) below =
 -- the End of each mutator is fit
 pub ends-fit : (types : List Shape) (mutators : ℕ) → All (λ line. IsFit types mutators line.mutator line.call) (ends_of mutators)
 ends-fit types mutators = ends-fit_below types mutators mutators (omega arith)
-
--- an End is built
-pub ends-built : (mutators : ℕ) → All (λ line. IsBuilt line.call) (ends_of mutators)
-ends-built zero = All-nil (λ (line : Line). IsBuilt line.call)
-ends-built (suc mutators) = All-push (λ (line : Line). IsBuilt line.call) (ends_of mutators) _ (ends-built mutators) tt
 
 -- a mutator's reply stands at the count of its replies before it
 reply-there : (done rest : History) (t : ℕ) (call : Call) (reply : Reply)

@@ -154,7 +154,7 @@ pub a_collect_after_a_full_collection_is_legal :
 a_collect_after_a_full_collection_is_legal = record {
   replies = (((lit< tt, lit< tt), (true, refl)), (tt, (((lit< tt, tt), (true, refl)), tt)));
   size = (lit≤ tt, (tt, (tt, tt)));
-  full = (lit≤ tt, (tt, (tt, tt)));
+  full = (tt, (tt, (tt, tt)));
   collect = (tt, (tt, (refl, tt)));
   reports = (tt, (refl, (tt, tt)));
 }

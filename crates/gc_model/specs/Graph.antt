@@ -1,5 +1,5 @@
 -- The graph of objects.
-use Rattle.std.specs.Prelude.{ℕ, ◌+◌, List, length, replicate, Option, None, Some, slice_index_or, sum_by, filter, Bool, false, ◌==◌}
+use Rattle.std.specs.Prelude.{ℕ, ◌+◌, List, length, replicate, Option, None, Some, slice_index_or, Bool, false, ◌==◌}
 use Rattle.gc_layout.specs.declared.shape.Shape.{Shape}
 use Rattle.gc_layout.specs.Shape.{common_shape}
 
@@ -39,7 +39,3 @@ is_mutator mutator (Some maker) = maker == mutator
 -- whether a mutator made the object
 abbrev pub is_made_by : ℕ → Object → Bool
 is_made_by mutator object = is_mutator mutator object.maker
-
--- the words of all objects that a mutator made
-abbrev pub made_words : Graph → ℕ → ℕ
-made_words graph mutator = sum_by object_size (filter (is_made_by mutator) graph)

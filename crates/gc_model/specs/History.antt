@@ -99,6 +99,15 @@ abbrev pub is_collection : Entry → Bool
 is_collection (Made mutator call reply) = false
 is_collection (Run report) = true
 
+-- whether an entry is a mutator's own
+abbrev pub is_own : ℕ → Entry → Bool
+is_own t (Made mutator call reply) = mutator == t
+is_own t (Run report) = false
+
+-- the entries after the last one of a mutator's own
+abbrev pub since_last : ℕ → History → History
+since_last t history = fold (λ since entry. if is_own t entry then [] else since ++ entry ∷ []) [] history
+
 -- the calls of a mutator's lines
 abbrev pub calls_in : ℕ → List Line → List Call
 calls_in t lines = map (λ line. line.call) (filter (is_line_of t) lines)

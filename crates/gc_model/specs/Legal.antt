@@ -1,18 +1,17 @@
--- Legal histories, in five parts: replies are the graph's, the heap's size is kept, full only where the rule on it says,
+-- Legal histories, in five parts: replies are the graph's, the heap's size is kept, full only behind a full collection,
 -- a collect follows a full collection, and full reports count the reachable.
-use Rattle.std.specs.Prelude.{◌≡◌, ℕ, ◌+◌, ◌*◌, ◌≤◌, [], ◌∷◌, ◌++◌, fold, Bool, true, false, ◌==◌, if◌then◌else◌, IsTrue}
+use Rattle.std.specs.Prelude.{◌≡◌, ℕ, ◌∷◌, ◌++◌, ◌<◌, ◌+◌, ◌*◌, ◌≤◌, [], Bool, true, false, IsTrue}
 use Rattle.std.specs.List.{list_any}
 use Rattle.gc_layout.specs.Shape.{size_of}
 use Rattle.gc_layout.specs.Sizes.{page_words}
 use Rattle.gc_model.specs.declared.call.Call.TheVariants.{New, Collect}
-use Rattle.gc_model.specs.declared.reply.Reply.TheVariants.{Done}
+use Rattle.gc_model.specs.declared.reply.Reply.TheVariants.{Done, Full}
 use Rattle.gc_model.specs.declared.entry.Entry.{Entry}
 use Rattle.gc_model.specs.declared.entry.Entry.TheVariants.{Made, Run}
 use Rattle.gc_model.specs.declared.entry.RunReport.TheVariants as report
 use Rattle.gc_model.specs.Answer.{answer, shape_at, IsFit}
-use Rattle.gc_model.specs.History.{Configuration, History, EachEntry, world_after}
-use Rattle.gc_model.specs.Interim.{FullAboveHalf}
-use Rattle.gc_model.specs.Reach.{live}
+use Rattle.gc_model.specs.History.{Configuration, History, EachEntry, is_collection, is_own, since_last, world_after}
+use Rattle.gc_model.specs.Reach.{live, own_words}
 
 -- a call is fit, and its reply is the graph's, with room for a new object or without
 abbrev pub ReplyIsTheGraphs : Configuration → History → Entry → Type 0
@@ -26,20 +25,32 @@ KeepsSize heap before (Made t (New into ty) Done) =
     (live (world_after heap before)).words + size_of (shape_at heap.types ty.0) ≤ heap.mutators * (heap.nursery + page_words * heap.pages)
 KeepsSize heap before entry = Unit {0}
 
--- whether an entry is a mutator's own
-abbrev pub is_own : ℕ → Entry → Bool
-is_own t (Made mutator call reply) = mutator == t
-is_own t (Run report) = false
+-- where the last collection of a history is a full one, and none of a mutator's own entries stands behind it: the entries before
+-- that collection, and those behind it
+pub record EndsInFull (t : ℕ) (history : History) : Type 0 where
+  pub front : History
+  pub objects : ℕ
+  pub words : ℕ
+  pub back : History
+  pub split : history ≡ front ++ Run (report.Full objects words) ∷ back
+  pub last : list_any is_collection back ≡ false
+  pub own : list_any (is_own t) back ≡ false
+
+-- a new object is refused only where the last collection is a full one that stands after its mutator's previous entry, and the
+-- reachable words that the mutator had made when it stood and the new object don't fit a half together
+pub record HasNoPlaceLeft (heap : Configuration) (before : History) (t size : ℕ) : Type 0 where
+  pub behind : EndsInFull t before
+  pub full : heap.nursery < own_words (world_after heap behind.front) t + size
+
+abbrev pub FullLeavesNoPlace : Configuration → History → Entry → Type 0
+FullLeavesNoPlace heap before (Made t (New into ty) Full) = HasNoPlaceLeft heap before t (size_of (shape_at heap.types ty.0))
+FullLeavesNoPlace heap before entry = Unit {0}
 
 -- whether an entry is a full collection
 abbrev pub is_full_collection : Entry → Bool
 is_full_collection (Made mutator call reply) = false
 is_full_collection (Run report.Minor) = false
 is_full_collection (Run (report.Full objects words)) = true
-
--- the entries after the last one of a mutator's own
-abbrev pub since_last : ℕ → History → History
-since_last t history = fold (λ since entry. if is_own t entry then [] else since ++ entry ∷ []) [] history
 
 -- a collect is done only after a full collection that stands after its mutator's previous entry
 abbrev pub CollectFollowsFull : Configuration → History → Entry → Type 0
@@ -56,7 +67,7 @@ ReportCountsReachable heap before entry = Unit {0}
 pub record IsLegal (heap : Configuration) (history : History) : Type 0 where
   pub replies : EachEntry (ReplyIsTheGraphs heap) [] history
   pub size : EachEntry (KeepsSize heap) [] history
-  pub full : EachEntry (FullAboveHalf heap) [] history
+  pub full : EachEntry (FullLeavesNoPlace heap) [] history
   pub collect : EachEntry (CollectFollowsFull heap) [] history
   pub reports : EachEntry (ReportCountsReachable heap) [] history
 
@@ -64,6 +75,6 @@ pub record IsLegal (heap : Configuration) (history : History) : Type 0 where
 pub record MayFollow (heap : Configuration) (before : History) (entry : Entry) : Type 0 where
   pub replies : ReplyIsTheGraphs heap before entry
   pub size : KeepsSize heap before entry
-  pub full : FullAboveHalf heap before entry
+  pub full : FullLeavesNoPlace heap before entry
   pub collect : CollectFollowsFull heap before entry
   pub reports : ReportCountsReachable heap before entry

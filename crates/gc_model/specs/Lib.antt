@@ -1,9 +1,7 @@
 pub mod Answer
-pub mod Built
 pub mod Examples
 pub mod Graph
 pub mod History
-pub mod Interim
 pub mod Laws
 pub mod Legal
 pub mod Plain
