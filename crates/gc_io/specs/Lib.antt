@@ -3,3 +3,4 @@ pub mod Faults
 pub mod Store
 pub mod Streams
 pub mod Supply
+pub mod Tally

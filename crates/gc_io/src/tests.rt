@@ -2,7 +2,7 @@
 
 use crate::{
     Gate, MemorySink, MemorySource, OpenGate, Put, Sink, Source, StdSink, StdSource, SteadySource,
-    Taken,
+    Taken, TallySink,
 };
 use std::io;
 use std::io::{ErrorKind, Read, Write};
@@ -111,6 +111,16 @@ fn memory_sink_refuses_listed_calls_and_what_does_not_fit(rt: HostRuntime) -> Re
     }
     assert_eq!(rt; sink.bytes(), b"abcd".as_slice());
     Ok(())
+}
+
+#[test]
+fn tally_sink_counts_the_bytes_of_every_piece(rt: HostRuntime) {
+    let mut sink = TallySink::make();
+    assert_eq!(rt; sink.count(), 0);
+    for (piece, count) in [("", 0), ("abc", 3), ("defgh", 8), ("", 8), ("i", 9)] {
+        assert_eq!(rt; sink.put(piece.as_bytes()), Put::All, "at {piece}");
+        assert_eq!(rt; sink.count(), count, "at {piece}");
+    }
 }
 
 #[test]
