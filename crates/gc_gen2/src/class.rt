@@ -33,3 +33,29 @@ pub fn cells_in_page(class: u8) -> u16
 {
     PAGE_WORDS as u16 / u16::from(class)
 }
+
+/// How many whole cells of a class lie in so many words of a page. Each division is one by a constant, which costs a
+/// multiplication and no division.
+pub fn cells_before(class: u8, words: u16) -> u16
+    requires { IsClass class }
+    ensures { result ≡ words / class }
+{
+    match class {
+        4 => words / 4,
+        8 => words / 8,
+        12 => words / 12,
+        16 => words / 16,
+        20 => words / 20,
+        24 => words / 24,
+        28 => words / 28,
+        32 => words / 32,
+        36 => words / 36,
+        40 => words / 40,
+        44 => words / 44,
+        48 => words / 48,
+        52 => words / 52,
+        56 => words / 56,
+        60 => words / 60,
+        _ => words / 64,
+    }
+}

@@ -11,7 +11,7 @@ ghost use Rattle.gc_gen2.specs.Page.{Page, free_page, empty_page, first_free_in,
 ghost use Rattle.gc_gen2.specs.Cells.{IsWellFormed, page_at, class_at, offset_of as offset_for, IsUsed, used_cells, free_cells, free_pages, first_page_with_room, first_free_page, next_cell, with_cell, without_cell, TakesCell, GivesCell};
 
 use crate::NoMemory;
-use crate::class::{PAGE_WORDS, cells_in_page, index_of};
+use crate::class::{PAGE_WORDS, cells_before, cells_in_page, index_of};
 use crate::page::PageCells;
 use std::alloc::Global;
 use std::marker::Model;
@@ -111,7 +111,7 @@ impl Gen2 {
         let page = (offset / PAGE_WORDS) as usize;
         let cells = &mut self.pages[page];
         let class = cells.class().unwrap();
-        cells.give((offset % PAGE_WORDS) as u16 / u16::from(class));
+        cells.give(cells_before(class, (offset % PAGE_WORDS) as u16));
         let index = index_of(class);
         self.rooms[index] |= 1 << page;
         self.free[index] += 1;
@@ -131,7 +131,8 @@ impl Gen2 {
         };
         let start = (offset % PAGE_WORDS) as u16;
         let words = u16::from(class);
-        start % words == 0 && start + words <= PAGE_WORDS as u16 && cells.is_used(start / words)
+        let number = cells_before(class, start);
+        number * words == start && start + words <= PAGE_WORDS as u16 && cells.is_used(number)
     }
 
     /// The class of a page, or None where it has none yet. Pages count from 0.

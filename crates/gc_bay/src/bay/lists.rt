@@ -19,6 +19,14 @@ impl Bay {
         self.remembered.push_reserved(a);
     }
 
+    /// How many addresses the remembered list has.
+    pub fn remembered_count(&self) -> usize
+        ensures count { result ≡ length self.now.remembered }
+        ensures bay { IsBay self.now }
+    {
+        self.remembered.len()
+    }
+
     /// The address at an index of the remembered list. None exactly where the index isn't below its length.
     pub fn remembered(&self, i: usize) -> Option<u64>
         ensures address { result ≡ slice_get self.now.remembered i }
