@@ -184,7 +184,7 @@ lies-more old new a s address size more lies =
 -- ---- all lie
 
 -- where each extent lies where it lay, each placed object does
-all_lie-where : (mutators : ℕ) (old new : ℕ → Bay) (placement : Placement) (graph : Graph)
+pub all_lie-where : (mutators : ℕ) (old new : ℕ → Bay) (placement : Placement) (graph : Graph)
     → ((u address size : ℕ) → u < mutators → LiesIn (old u) address size → LiesIn (new u) address size)
     → AllLie mutators old placement graph → AllLie mutators new placement graph
 all_lie-where mutators old new placement graph stays lie = record {
@@ -366,7 +366,7 @@ cells-same mutators old new placement filling same hold u offset there =
     (sym (same u)) (hold u offset there)
 
 -- an address that holds a placed object holds it also where one more is placed
-holds-more : (placement : Placement) (number address a : ℕ) → ((place : ℕ) → placement number ≡ Some place → ⊥)
+pub holds-more : (placement : Placement) (number address a : ℕ) → ((place : ℕ) → placement number ≡ Some place → ⊥)
     → HoldsPlaced placement a → HoldsPlaced (with_place placement number address) a
 holds-more placement number address a unplaced holds =
     let differs : holds.number ≢ number = λ same. unplaced a (subst (λ n. placement n ≡ Some a) same holds.at) in
@@ -457,7 +457,17 @@ given-from : (f : ℕ → ℕ) (there : Option ℕ) (a : ℕ) → Some a ≡ opt
 given-from f None a given = absurd (none-some a (sym given))
 given-from f (Some x) a given = let same : Some a ≡ Some (f x) = given in (x, refl, cc same)
 
--- so is the next cell of the size's class, where it is taken
+-- the next cell of the size's class, where it is taken, has so many words
+pub cell-taken : (old new : Bay) (size address : ℕ) → Some address ≡ next_in_cells old size
+    → ((offset : ℕ) → next_cell old.pages (class_of size) ≡ Some offset → TakesCell old.pages new.pages (class_of size) offset)
+    → new ≡ record old { pages = new.pages; given = new.given } → LiesInCell new.layout new.mutator new.pages address size
+cell-taken old new size address given takes rest =
+    let next = given-from (cell_address old.layout old.mutator) (next_cell old.pages (class_of size)) address given in
+    let layout : new.layout ≡ old.layout = ap (λ (bay : Bay). bay.layout) rest in
+    let mutator : new.mutator ≡ old.mutator = ap (λ (bay : Bay). bay.mutator) rest in
+    record { offset = next.0; at = rw (layout, mutator) next.2; used = (takes next.0 next.1).used }
+
+-- so it is one more extent
 pub more-cell : (old new : Bay) (size address : ℕ) → Some address ≡ next_in_cells old size
     → ((offset : ℕ) → next_cell old.pages (class_of size) ≡ Some offset → TakesCell old.pages new.pages (class_of size) offset)
     → new ≡ record old { pages = new.pages; given = new.given } → IsBay new → HasOneMoreExtent old new address size
@@ -480,5 +490,5 @@ more-cell old new size address given takes rest is =
         | inl same ↦ inr (rw same at)
         | inr differs ↦ inl (used.0, (taken.others used.0 other differs).0 used.1)
       ];
-      lies = inr (record { offset = offset; at = at; used = taken.used });
+      lies = inr (cell-taken old new size address given takes rest);
     }

@@ -17,7 +17,7 @@ use Rattle.gc_placement.proofs.Placement.{with_place-other, with_place-same}
 use Rattle.gc_placement.proofs.Worlds.{named_by-either, named_by-first, slot_at-either, slot_at-first, slot_at-fresh, slot_at-number, slot_at-object, slot_at-other}
 
 -- whether an object is placed
-abbrev is_placed : Placement → ℕ → Bool
+abbrev pub is_placed : Placement → ℕ → Bool
 is_placed placement number = is_some (placement number)
 
 -- an address that is there is one
@@ -26,7 +26,7 @@ address_of_some None is = absurd (false≢true is)
 address_of_some (Some a) is = (a, refl)
 
 -- so what has an address is placed
-placed-from_test : (placement : Placement) (number : ℕ) → is_placed placement number ≡ true → IsPlaced placement number
+pub placed-from_test : (placement : Placement) (number : ℕ) → is_placed placement number ≡ true → IsPlaced placement number
 placed-from_test placement number is =
     let some = address_of_some (placement number) is in
     record { address = some.0; at = some.1 }
@@ -38,7 +38,7 @@ placed-named placement number None placed named = absurd (false≢true named)
 placed-named placement number (Some other) placed named = subst (IsPlaced placement) (eqb-true other number named) placed
 
 -- an object that one of these names names is placed where each name is
-placed-among : (placement : Placement) (number : ℕ) (named : List (Option ℕ)) → All (IsNamePlaced placement) named
+pub placed-among : (placement : Placement) (number : ℕ) (named : List (Option ℕ)) → All (IsNamePlaced placement) named
     → is_named number named ≡ true → is_placed placement number ≡ true
 placed-among placement number named all some =
     let one = Any-from_list_any (names number) named some in
@@ -46,7 +46,7 @@ placed-among placement number named all some =
     ap is_some (placed-named placement number one.1 placed one.4).at
 
 -- each name that a register holds is placed
-registers-placed : (placement : Placement) (world : World) → Covers placement world
+pub registers-placed : (placement : Placement) (world : World) → Covers placement world
     → All (IsNamePlaced placement) (registers_of world.mutators)
 registers-placed placement world covers =
     All-flat_map (IsNamePlaced placement) (λ (mutator : Mutator). mutator.registers) world.mutators
@@ -54,7 +54,7 @@ registers-placed placement world covers =
     All-from_get_or (IsNamePlaced placement) (mutator_at world t).registers None (λ reg within. covers.registers t reg)))
 
 -- each name that a slot of a placed object holds is placed
-slots-placed : (placement : Placement) (world : World) → Covers placement world → (number : ℕ) → IsPlaced placement number
+pub slots-placed : (placement : Placement) (world : World) → Covers placement world → (number : ℕ) → IsPlaced placement number
     → All (IsNamePlaced placement) (object_at world.graph number).slots
 slots-placed placement world covers number placed =
     All-from_get_or (IsNamePlaced placement) (object_at world.graph number).slots None

@@ -25,19 +25,26 @@ pub old-frame : (word other : ℕ → ℕ) (layout : Layout) (placement : Placem
 old-frame word other layout placement are same number address at =
     old-same (word address) (other address) layout address (same number address at) (are number address at)
 
--- so does what is stored in a word of a placed object behind its header
-pub old-stored : (word other : ℕ → ℕ) (layout : Layout) (placement : Placement) (graph : Graph) (number address at v : ℕ)
-    → AreOldInPages word layout placement → AreApart placement graph → placement number ≡ Some address → address < at
-    → at < address + object_size (object_at graph number) → Stores word other at v → AreOldInPages other layout placement
-old-stored word other layout placement graph number address at v are apart placed behind within stores =
-    old-frame word other layout placement are (λ each each_address each_at.
+-- what is stored in a word of a placed object behind its header changes no header
+pub headers-stored : (word other : ℕ → ℕ) (placement : Placement) (graph : Graph) (number address at v : ℕ) → AreApart placement graph
+    → placement number ≡ Some address → address < at → at < address + object_size (object_at graph number) → Stores word other at v
+    → (each each_address : ℕ) → placement each ≡ Some each_address → other each_address ≡ word each_address
+headers-stored word other placement graph number address at v apart placed behind within stores each each_address each_at =
     stores.elsewhere each_address (λ meet.
     let own : each ≡ number = apart at each number
     (record { address = each_address; at = each_at; from = omega (arith, meet); to = omega (arith, meet) })
     (record { address = address; at = placed; from = omega (arith, behind); to = within }) in
     let moved : Some each_address ≡ Some address = sym each_at ∙ ap placement own ∙ placed in
     let here : each_address ≡ address = cc in
-    omega (arith, meet, here, behind)))
+    omega (arith, meet, here, behind))
+
+-- so each object stays as old as it was
+pub old-stored : (word other : ℕ → ℕ) (layout : Layout) (placement : Placement) (graph : Graph) (number address at v : ℕ)
+    → AreOldInPages word layout placement → AreApart placement graph → placement number ≡ Some address → address < at
+    → at < address + object_size (object_at graph number) → Stores word other at v → AreOldInPages other layout placement
+old-stored word other layout placement graph number address at v are apart placed behind within stores =
+    old-frame word other layout placement are
+    (headers-stored word other placement graph number address at v apart placed behind within stores)
 
 -- a fresh object is as old as it is written, and where it is written outside of the placed ones, these stay as they are
 pub old-new : (word other : ℕ → ℕ) (layout : Layout) (placement : Placement) (graph : Graph) (number address size : ℕ) (ty : TypeNo)

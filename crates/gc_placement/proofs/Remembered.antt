@@ -31,7 +31,7 @@ listed-frame mutators old new address t index same listed =
     }
 
 -- so what is on some list is on one there
-on_a_list-frame : (mutators : ℕ) (old new : ℕ → Bay) (address : ℕ) → HasLists mutators old new → IsOnAList mutators new address
+pub on_a_list-frame : (mutators : ℕ) (old new : ℕ → Bay) (address : ℕ) → HasLists mutators old new → IsOnAList mutators new address
     → IsOnAList mutators old address
 on_a_list-frame mutators old new address same on = record {
   mutator = on.mutator;

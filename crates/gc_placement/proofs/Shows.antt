@@ -25,7 +25,7 @@ use Rattle.gc_placement.proofs.Registers.{have_registers-bay, have_registers-blo
 use Rattle.std.proofs.lemmas.List.{length-set}
 
 -- a memory of the same types and the same layout shows what these words and bays show in them
-in_place : (new : Memory) (types : List Shape) (layout : Layout) (placement : Placement) (world : World) → new.types ≡ types
+pub in_place : (new : Memory) (types : List Shape) (layout : Layout) (placement : Placement) (world : World) → new.types ≡ types
     → new.layout ≡ layout → Shows (record { types = types; layout = layout; word = new.word; bay = new.bay }) placement world
     → Shows new placement world
 in_place new types layout placement world same_types same_layout shown =

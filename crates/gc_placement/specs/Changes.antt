@@ -1,10 +1,13 @@
 -- Changes of a memory: of a word, of an extent, and of a bay.
-use Rattle.std.specs.Prelude.{◌≡◌, ◌≢◌, ◌⊎◌, ℕ, ◌+◌, ◌<◌, ◌≤◌, Bool}
+use Rattle.std.specs.List.{swap_remove}
+use Rattle.std.specs.Prelude.{◌≡◌, ◌≢◌, ◌⊎◌, ℕ, ◌+◌, ◌<◌, ◌≤◌, Bool, [], ◌∷◌, ◌++◌, length}
 use Rattle.gc_bay.specs.Bay.{Bay, IsBay}
 use Rattle.gc_gen2.specs.Cells.{IsUsed, IsUsedCell}
 use Rattle.gc_layout.specs.declared.shape.TypeNo.{TypeNo}
 use Rattle.gc_layout.specs.Head.{head_word, fresh_head}
 use Rattle.gc_layout.specs.Places.{cell_address}
+use Rattle.gc_layout.specs.Shape.{forwarding_address}
+use Rattle.gc_layout.specs.Sizes.{first_slot}
 use Rattle.gc_placement.specs.Extents.{LiesIn}
 use Rattle.gc_placement.specs.Memory.{Memory}
 
@@ -19,10 +22,31 @@ pub record WritesFresh (old new : ℕ → ℕ) (address size : ℕ) (ty : TypeNo
   pub zeros : (a : ℕ) → address < a → a < address + size → new a ≡ 0
   pub elsewhere : (a : ℕ) → (a < address) ⊎ (address + size ≤ a) → new a ≡ old a
 
+-- an object of so many words is copied: the copy has this header, the forwarding word 0 and the fields of the object, the
+-- object's own forwarding word is the address of the copy, and all other words are as before
+pub record CopiesObject (old new : ℕ → ℕ) (address copy size header : ℕ) : Type 0 where
+  pub header_is : new copy ≡ header
+  pub unforwarded : new (forwarding_address copy) ≡ 0
+  pub fields : (k : ℕ) → first_slot ≤ k → k < size → new (copy + k) ≡ old (address + k)
+  pub forwarded : new (forwarding_address address) ≡ copy
+  pub elsewhere : (a : ℕ) → a ≢ forwarding_address address → (a < copy) ⊎ (copy + size ≤ a) → new a ≡ old a
+
 -- a mutator's bay is another one: all others are as before
 pub record ChangesBay (old new : ℕ → Bay) (t : ℕ) (bay : Bay) : Type 0 where
   pub here : new t ≡ bay
   pub elsewhere : (u : ℕ) → u ≢ t → new u ≡ old u
+
+-- a mutator's remembered list has one more address at its end: all other lists are as before
+pub record AddsToList (mutators : ℕ) (old new : ℕ → Bay) (t address : ℕ) : Type 0 where
+  pub mutator : t < mutators
+  pub here : (new t).remembered ≡ (old t).remembered ++ address ∷ []
+  pub elsewhere : (u : ℕ) → u < mutators → u ≢ t → (new u).remembered ≡ (old u).remembered
+
+-- a mutator's remembered list loses the address at an index, and its last one comes there: all other lists are as before
+pub record DropsFromList (mutators : ℕ) (old new : ℕ → Bay) (t index : ℕ) : Type 0 where
+  pub within : index < length (old t).remembered
+  pub here : (new t).remembered ≡ swap_remove (old t).remembered index 0
+  pub elsewhere : (u : ℕ) → u < mutators → u ≢ t → (new u).remembered ≡ (old u).remembered
 
 -- a bay is whose it was, in the layout in which it was
 pub record IsSameOwners (old new : Bay) : Type 0 where

@@ -1,12 +1,12 @@
 -- Where the extents of placed objects lie, and that they are apart.
-use Rattle.std.specs.Prelude.{◌≡◌, ◌⊎◌, ◌↔◌, ℕ, ◌+◌, ◌<◌, ◌≤◌, List, length, Bool, true, Option, None, Some}
+use Rattle.std.specs.Prelude.{◌≡◌, ◌⊎◌, ◌↔◌, ℕ, ◌+◌, ◌<◌, ◌≤◌, List, length, Bool, true, ◌==◌, Option, None, Some}
 use Rattle.gc_bay.specs.Bay.{Bay}
 use Rattle.gc_gen2.specs.Cells.{IsUsed, IsUsedCell}
 use Rattle.gc_gen2.specs.Class.{class_of}
 use Rattle.gc_gen2.specs.Page.{Page}
 use Rattle.gc_layout.specs.Places.{Layout, IsInPages, address_of, cell_address}
 use Rattle.gc_layout.specs.declared.places.Part.TheVariants.{Half}
-use Rattle.gc_model.specs.Graph.{Graph, object_at, object_size}
+use Rattle.gc_model.specs.Graph.{Graph, Object, object_at, object_size}
 use Rattle.gc_placement.specs.Headers.{head_of}
 use Rattle.gc_placement.specs.Placement.{Placement, IsWordOf}
 
@@ -14,6 +14,10 @@ use Rattle.gc_placement.specs.Placement.{Placement, IsWordOf}
 abbrev pub home_of : Option ℕ → ℕ
 home_of None = 0
 home_of (Some maker) = maker
+
+-- whether an object lies in the region of a mutator
+abbrev pub is_home : ℕ → Object → Bool
+is_home t object = home_of object.maker == t
 
 -- so many words from an address on lie in the first used words of a half
 pub record LiesInHalf (layout : Layout) (m half used address size : ℕ) : Type 0 where
@@ -50,6 +54,12 @@ AreApart placement graph = (a i j : ℕ) → IsWordOf placement graph i a → Is
 pub record HoldsPlaced (placement : Placement) (address : ℕ) : Type 0 where
   pub number : ℕ
   pub at : placement number ≡ Some address
+
+-- the address is that of a placed object of a mutator's
+pub record HoldsOwn (placement : Placement) (graph : Graph) (t address : ℕ) : Type 0 where
+  pub number : ℕ
+  pub at : placement number ≡ Some address
+  pub home : home_of (object_at graph number).maker ≡ t
 
 -- each used cell holds a placed object, or is being filled
 abbrev pub EachCellHolds : ℕ → (ℕ → Bay) → Placement → (ℕ → Bool) → Type 0
