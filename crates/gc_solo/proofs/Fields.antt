@@ -6,16 +6,15 @@ use Rattle.gc_layout.specs.Shape.{number_address, slot_address}
 use Rattle.gc_model.specs.declared.reply.Reply.TheVariants.{Found, Range, Yes}
 use Rattle.gc_model.specs.Answer.{base_object, keeps, number_owner, shape_at, slot_owner, swaps}
 use Rattle.gc_model.specs.Graph.{object_at}
-use Rattle.gc_model.specs.World.{World, named_by, number_at, slot_at, with_number, with_slot}
+use Rattle.gc_model.specs.World.{World, named_by, number_at, slot_at, with_number}
 use Rattle.gc_placement.specs.Changes.{Stores}
 use Rattle.gc_placement.specs.Objects.{by_place}
 use Rattle.gc_placement.specs.Placement.{IsNamePlaced, Placement, name_address}
 use Rattle.gc_placement.proofs.Objects.{number_read, slot_read}
-use Rattle.gc_placement.proofs.Shows.{shows-number, shows-slot}
+use Rattle.gc_placement.proofs.Rest.{rest-number}
 use Rattle.gc_solo.specs.Fields.{IsNumber, IsNumberOf, IsSlot, IsSlotOf}
 use Rattle.gc_solo.specs.Kept.{Kept, ShowsBy, bay_at, memory_of}
 use Rattle.gc_solo.specs.Stands.{IsReadyFor}
-use Rattle.gc_solo.proofs.Interim.Made.{uncollected-number, uncollected-slot}
 use Rattle.gc_solo.proofs.Placed.{base-there, placed-shaped, word-inside}
 
 -- ---- which field is meant
@@ -113,41 +112,23 @@ pub slot-word : (kept : Kept) (placement : Placement) (world : World) (number pl
     → IsSlotOf placement world number place address
     → slice_index kept.words address ≡ name_address placement (slot_at world number place)
 slot-word kept placement world number place address shows slot =
-    slot_read (memory_of kept).word placement world number place slot.start address shows.shown.standing slot.at slot.within
+    slot_read (memory_of kept).word placement world number place slot.start address shows.rest.shown.standing slot.at slot.within
     slot.address_is
 
 -- which is placed
 pub slot-placed : (kept : Kept) (placement : Placement) (world : World) (number place address : ℕ) → ShowsBy kept placement world
     → IsSlotOf placement world number place address → IsNamePlaced placement (slot_at world number place)
 slot-placed kept placement world number place address shows slot =
-    shows.shown.covers.slots number place (record { address = slot.start; at = slot.at })
+    shows.rest.shown.covers.slots number place (record { address = slot.start; at = slot.at })
 
 -- the word of a number holds it
 pub number-word : (kept : Kept) (placement : Placement) (world : World) (number place address : ℕ) → ShowsBy kept placement world
     → IsNumberOf placement world number place address → slice_index kept.words address ≡ number_at world number place
 number-word kept placement world number place address shows field =
-    number_read (memory_of kept).word placement (by_place placement) world number place field.start address shows.shown.standing
+    number_read (memory_of kept).word placement (by_place placement) world number place field.start address shows.rest.shown.standing
     field.at field.within field.address_is
 
 -- ---- what a store leaves
-
--- a slot comes to name what is placed, where its address is stored
-pub shown-slot : (old new : Kept) (placement : Placement) (world : World) (number place address v : ℕ) (name : Option ℕ)
-    → ShowsBy old placement world → new ≡ record old { words = new.words } → length new.words ≡ length old.words
-    → Stores (memory_of old).word (memory_of new).word address v → IsSlotOf placement world number place address
-    → v ≡ name_address placement name → IsNamePlaced placement name → ShowsBy new placement (with_slot world number place name)
-shown-slot old new placement world number place address v name shows rest count stores slot v_is named =
-    let after : Kept = record old { words = new.words } in
-    let shown : ShowsBy after placement (with_slot world number place name) = record {
-      shown = shows-slot (memory_of old) (memory_of after) placement world number place slot.start address v name shows.shown
-          (record { types = refl; layout = refl; bays = λ t. refl }) stores slot.at slot.within slot.address_is v_is named;
-      words = count ∙ shows.words;
-      bays = shows.bays;
-      eight = shows.eight;
-      blocked = shows.blocked;
-      uncollected = uncollected-slot old.layout.mutators (λ t. bay_at old.bays t) world number place name shows.uncollected;
-    } in
-    subst (λ (each : Kept). ShowsBy each placement (with_slot world number place name)) (sym rest) shown
 
 -- a number is another one, where that one is stored
 pub shown-number : (old new : Kept) (placement : Placement) (world : World) (number place address v : ℕ)
@@ -157,13 +138,12 @@ pub shown-number : (old new : Kept) (placement : Placement) (world : World) (num
 shown-number old new placement world number place address v shows rest count stores field =
     let after : Kept = record old { words = new.words } in
     let shown : ShowsBy after placement (with_number world number place v) = record {
-      shown = shows-number (memory_of old) (memory_of after) placement world number place field.start address v shows.shown
+      rest = rest-number (memory_of old) (memory_of after) placement world number place field.start address v shows.rest
           (record { types = refl; layout = refl; bays = λ t. refl }) stores field.at field.within field.address_is;
       words = count ∙ shows.words;
       bays = shows.bays;
       eight = shows.eight;
       blocked = shows.blocked;
-      uncollected = uncollected-number old.layout.mutators (λ t. bay_at old.bays t) world number place v shows.uncollected;
     } in
     subst (λ (each : Kept). ShowsBy each placement (with_number world number place v)) (sym rest) shown
 

@@ -10,10 +10,10 @@ use Rattle.gc_layout.specs.Places.{IsWithinLimits, cell_address, word_count}
 use Rattle.gc_layout.specs.Types.{AreTypes}
 use Rattle.gc_model.specs.World.{Mutator, first_world, fresh_mutator}
 use Rattle.gc_placement.specs.Changes.{ChangesBay, HasSameExtents, WritesFresh}
-use Rattle.gc_placement.proofs.Bays.{each-changed}
 use Rattle.gc_placement.proofs.Extents.{more-cell, more-then_same}
-use Rattle.gc_placement.proofs.First.{first_placement, fresh-next_in_cells, shows-first}
+use Rattle.gc_placement.proofs.First.{first_placement, fresh-next_in_cells}
 use Rattle.gc_placement.proofs.Lists.{replicate-at}
+use Rattle.gc_placement.proofs.Rest.{HasSameLists, rest-first}
 use Rattle.gc_solo.specs.Kept.{Kept, ShowsBy, bay_at, memory_of, most_mutators, no_bay}
 
 -- a heap in which nothing was done yet
@@ -35,6 +35,13 @@ pub record TookCell (old new : Bay) (size address : ℕ) : Type 0 where
 -- the count of the pages that were given a class is no part of a bay's extents
 same-given : (bay : Bay) → IsBay (record bay { given = 0 }) → HasSameExtents bay (record bay { given = 0 })
 same-given bay is = record { owner = record { bay = is; layout = refl; mutator = refl }; half = refl; used = refl; pages = refl }
+
+-- nor of its lists, and taking a cell changes none
+took-lists : (old took : Bay) (size address : ℕ) → TookCell old took size address → HasSameLists old (record took { given = 0 })
+took-lists old took size address cell = record {
+  remembered = ap (λ (own : Bay). own.remembered) cell.rest;
+  grey = ap (λ (own : Bay). own.grey) cell.rest;
+}
 
 -- where a bay of the list is another one, one bay changes
 changes-bay : (bays : List Bay) (t : ℕ) (bay : Bay) → t < length bays
@@ -62,15 +69,12 @@ first-shown old took words address ty fresh cell is kind_is writes count =
     let more = more-then_same (bay_at old.bays 0) took bay address 18
     (more-cell (bay_at old.bays 0) took 18 address cell.address_is cell.takes cell.rest cell.is) (same-given took is) in
     record {
-      shown = shows-first (memory_of old) (memory_of new) address ty bay fresh.types fresh.limits fresh.fresh (cc (at)) kind_is writes
-          changes more (ap (λ (own : Bay). own.registers) cell.rest);
+      rest = rest-first (memory_of old) (memory_of new) address ty bay fresh.types fresh.limits fresh.fresh (cc (at)) kind_is writes
+          changes more (took-lists (bay_at old.bays 0) took 18 address cell) (ap (λ (own : Bay). own.registers) cell.rest);
       words = count ∙ fresh.words;
       bays = length-set old.bays 0 bay ∙ fresh.bays;
       eight = ap length fresh.blocked;
       blocked = λ t below.
           ap (λ (all : List Bool). slice_index_or all t false) fresh.blocked ∙ replicate-at 8 t false
           ∙ sym (ap (λ (mutator : Mutator). mutator.blocked) (replicate-at layout.mutators t fresh_mutator));
-      uncollected = each-changed (λ t own. t < layout.mutators → own.used ≡ 0) (λ u. bay_at old.bays u) (λ u. bay_at bays u) 0 bay
-          changes (λ below. ap (λ (own : Bay). own.used) cell.rest ∙ ap (λ (own : Bay). own.used) first)
-          (λ t differs below. ap (λ (own : Bay). own.used) (fresh.fresh t below));
     }

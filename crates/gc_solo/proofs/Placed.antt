@@ -1,17 +1,14 @@
 -- What is known of a placed object: where its words lie, what its header says, and which object a register names.
-use Rattle.std.proofs.Common.{◌≡◌, ◌≢◌, ◌∙◌, ℕ, ◌*◌, ◌<◌, ◌≤◌, Option, Some, length, inl, inr, sym, ap, arith, slice_index}
+use Rattle.std.proofs.Common.{◌≡◌, ◌≢◌, ◌∙◌, ℕ, ◌*◌, ◌<◌, ◌≤◌, Some, length, inl, inr, sym, ap, arith, slice_index}
 use Rattle.std.proofs.lemmas.Bool.{cases_eq}
-use Rattle.std.proofs.lemmas.Option.{same_Some}
 use native.Mathlib.Nat.{mul-le-mul_right}
-use Rattle.gc_layout.specs.declared.head.Head.{Head}
 use Rattle.gc_layout.specs.declared.shape.Shape.{Shape}
-use Rattle.gc_layout.specs.Head.{head_word}
 use Rattle.gc_layout.specs.Places.{region_words}
 use Rattle.gc_model.specs.Answer.{shape_at}
 use Rattle.gc_model.specs.Graph.{object_at, common_object}
 use Rattle.gc_model.specs.Laws.{IsTyped, kind_of}
 use Rattle.gc_model.specs.World.{World, named_by}
-use Rattle.gc_placement.specs.Headers.{IsHeader, head_of}
+use Rattle.gc_placement.specs.Headers.{IsHeader}
 use Rattle.gc_placement.specs.Objects.{by_place}
 use Rattle.gc_placement.specs.Placement.{IsWordOf, Placement}
 use Rattle.gc_placement.proofs.Extents.{word-within}
@@ -26,7 +23,7 @@ pub word-inside : (kept : Kept) (placement : Placement) (world : World) (number 
 word-inside kept placement world number a shows word =
     omega (
       arith,
-      word-within kept.layout (λ t. bay_at kept.bays t) placement world.graph number a shows.shown.bays shows.shown.lying word,
+      word-within kept.layout (λ t. bay_at kept.bays t) placement world.graph number a shows.rest.shown.bays shows.rest.shown.lying word,
       shows.words,
     )
 
@@ -41,7 +38,7 @@ header-inside kept placement world number start shows at =
 pub placed-small : (kept : Kept) (placement : Placement) (world : World) (number start : ℕ) → ShowsBy kept placement world
     → placement number ≡ Some start → start < 2097281
 placed-small kept placement world number start shows at =
-    let limits = shows.shown.bays.limits in
+    let limits = shows.rest.shown.bays.limits in
     let region : region_words kept.layout ≤ 262160 = omega (arith, limits.small_nursery, limits.few_pages) in
     let all : kept.layout.mutators * region_words kept.layout ≤ 8 * region_words kept.layout =
     mul-le-mul_right (region_words kept.layout) limits.few_mutators in
@@ -51,7 +48,7 @@ placed-small kept placement world number start shows at =
 pub placed-typed : (kept : Kept) (placement : Placement) (world : World) (t number start : ℕ) → IsReadyFor kept placement world t
     → placement number ≡ Some start → IsTyped kept.types (kind_of (object_at world.graph number))
 placed-typed kept placement world t number start ready at =
-    ready.typed.objects number common_object (ready.shows.shown.lying.there number start at)
+    ready.typed.objects number common_object (ready.shows.rest.shown.lying.there number start at)
 
 -- so it has as many slots and numbers as its shape says
 pub placed-shaped : (kept : Kept) (placement : Placement) (world : World) (t number start : ℕ) (shape : Shape)
@@ -70,25 +67,14 @@ placed-shaped kept placement world t number start shape ready at is =
 pub header-at : (kept : Kept) (placement : Placement) (world : World) (t number start word : ℕ) → IsReadyFor kept placement world t
     → placement number ≡ Some start → word ≡ slice_index kept.words start → IsHeader word (object_at world.graph number).ty
 header-at kept placement world t number start word ready at is =
-    rw is (header_read (memory_of kept).word placement (by_place placement) world.graph number start ready.shows.shown.standing at)
-
--- what is read of a header's word is its head, where each head of that word is read
-pub head-read : (word ty : ℕ) (read : Option Head) → IsHeader word ty
-    → ((head : Head) → head.ty.0 < 256 → head_word head ≡ word → read ≡ Some head) → read ≡ Some (head_of word)
-head-read word ty read header exact = exact (head_of word) (omega arith) header.header
-
--- so it has the object's type
-pub type-read : (word ty : ℕ) (read : Option Head) (head : Head) → IsHeader word ty
-    → ((each : Head) → each.ty.0 < 256 → head_word each ≡ word → read ≡ Some each) → read ≡ Some head → head.ty.0 ≡ ty
-type-read word ty read head header exact is =
-    ap (λ (each : Head). each.ty.0) (same_Some head (head_of word) (sym is ∙ head-read word ty read header exact)) ∙ header.type_is
+    rw is (header_read (memory_of kept).word placement (by_place placement) world.graph number start ready.shows.rest.shown.standing at)
 
 -- ---- what a register names
 
 -- a mutator of the world is one of the layout
 pub mutator-there : (kept : Kept) (placement : Placement) (world : World) (t : ℕ) → IsReadyFor kept placement world t
     → t < kept.layout.mutators
-mutator-there kept placement world t ready = omega (arith, ready.mutator, ready.shows.shown.mutators)
+mutator-there kept placement world t ready = omega (arith, ready.mutator, ready.shows.rest.shown.mutators)
 
 -- a register names an object that is placed at an address
 pub record IsBase (placement : Placement) (world : World) (t base start : ℕ) : Type 0 where
@@ -100,7 +86,7 @@ pub record IsBase (placement : Placement) (world : World) (t base start : ℕ) :
 pub base-there : (kept : Kept) (placement : Placement) (world : World) (t base start : ℕ) → IsReadyFor kept placement world t
     → start ≡ slice_index (bay_at kept.bays t).registers base → start ≢ 0 → IsBase placement world t base start
 base-there kept placement world t base start ready is some =
-    let shown = ready.shows.shown in
+    let shown = ready.shows.rest.shown in
     let named = some-name placement (named_by world t base) start (shown.covers.registers t base)
     (is ∙ shown.registers t base (mutator-there kept placement world t ready)) some in
     record { object = named.0; named = named.1; at = named.2 }

@@ -3,23 +3,20 @@ use Rattle.std.proofs.Common.{◌≡◌, ℕ, ◌<◌, List, length, Bool, true,
 use Rattle.std.proofs.lemmas.Bool.{cases_eq, cases_lt}
 use Rattle.std.proofs.lemmas.List.{get_or-set_other, get_or-set_same, get_or_past, get_or_read, length-set}
 use Rattle.gc_bay.specs.Bay.{Bay, IsBay}
-use Rattle.gc_model.specs.Graph.{made_words}
 use Rattle.gc_model.specs.World.{Mutator, World, fresh_mutator, is_blocked, mutator_at, with_blocked, with_mutator, with_register}
 use Rattle.gc_model.proofs.Sound.{mutator_at-sound}
 use Rattle.gc_placement.specs.Changes.{ChangesBay, HasSameExtents}
 use Rattle.gc_placement.specs.Placement.{Placement, IsNamePlaced, name_address}
-use Rattle.gc_placement.proofs.Bays.{each-changed}
 use Rattle.gc_placement.proofs.Extents.{same-register}
 use Rattle.gc_placement.proofs.Lists.{replicate-at, set-either}
-use Rattle.gc_placement.proofs.Shows.{shows-blocked, shows-mutator, shows-register}
-use Rattle.gc_solo.specs.Interim.{IsUncollected}
+use Rattle.gc_placement.proofs.Rest.{HasSameLists, rest-blocked, rest-mutator, rest-register}
 use Rattle.gc_solo.specs.Kept.{Kept, ShowsBy, bay_at, memory_of, no_bay}
 use Rattle.gc_solo.specs.Stands.{IsReadyFor}
 
 -- a mutator is one of the layout's
 pub ready-mutator : (kept : Kept) (placement : Placement) (world : World) (t : ℕ) → IsReadyFor kept placement world t
     → t < kept.layout.mutators
-ready-mutator kept placement world t ready = omega (arith, ready.mutator, ready.shows.shown.mutators)
+ready-mutator kept placement world t ready = omega (arith, ready.mutator, ready.shows.rest.shown.mutators)
 
 -- and has a bay
 pub ready-bay : (kept : Kept) (placement : Placement) (world : World) (t : ℕ) → IsReadyFor kept placement world t
@@ -30,7 +27,7 @@ ready-bay kept placement world t ready = omega (arith, ready-mutator kept placem
 pub ready-blocked : (kept : Kept) (placement : Placement) (world : World) (t : ℕ) → IsReadyFor kept placement world t
     → t < length kept.blocked
 ready-blocked kept placement world t ready =
-    omega (arith, ready-mutator kept placement world t ready, ready.shows.eight, ready.shows.shown.bays.limits.few_mutators)
+    omega (arith, ready-mutator kept placement world t ready, ready.shows.eight, ready.shows.rest.shown.bays.limits.few_mutators)
 
 -- what is read at a mutator's place is its bay
 pub bay-read : (kept : Kept) (placement : Placement) (world : World) (t at : ℕ) (read : Bay) → IsReadyFor kept placement world t
@@ -45,14 +42,6 @@ bay-written bays t bay there = record {
   here = get_or-set_same bays t bay no_bay there;
   elsewhere = λ u differs. get_or-set_other bays t u bay no_bay differs;
 }
-
--- a bay of which as much is used is written
-uncollected-bay : (mutators : ℕ) (bays : List Bay) (world : World) (t : ℕ) (bay : Bay) → t < length bays
-    → bay.used ≡ (bay_at bays t).used → IsUncollected mutators (bay_at bays) world
-    → IsUncollected mutators (bay_at (slice_set bays t bay)) world
-uncollected-bay mutators bays world t bay there same uncollected =
-    each-changed (λ u each. u < mutators → each.used ≡ made_words world.graph u) (bay_at bays) (bay_at (slice_set bays t bay)) t bay
-    (bay-written bays t bay there) (λ below. same ∙ uncollected t below) (λ u differs. uncollected u)
 
 -- each mutator is blocked in the world as the list says
 abbrev pub HaveBlocked : ℕ → List Bool → World → Type 0
@@ -92,6 +81,11 @@ blocked-changed mutators blocked world t mutator there known have u below =
 abbrev pub with_registers : Bay → List ℕ → Bay
 with_registers bay registers = record bay { registers = registers }
 
+-- it has the lists that the bay has
+lists-registers : (old bay : Bay) (registers : List ℕ) → bay ≡ with_registers old registers → HasSameLists old bay
+lists-registers old bay registers set =
+    record { remembered = ap (λ (each : Bay). each.remembered) set; grey = ap (λ (each : Bay). each.grey) set }
+
 -- a register comes to name what is placed, where the mutator's bay holds its address
 pub shown-register : (kept : Kept) (placement : Placement) (world : World) (t reg address : ℕ) (bay : Bay) (name : Option ℕ)
     → IsReadyFor kept placement world t → IsBay bay
@@ -106,15 +100,14 @@ shown-register kept placement world t reg address bay name ready is set within a
     let same : HasSameExtents old bay =
     subst (HasSameExtents old) (sym set) (same-register old registers (subst IsBay set is)) in
     record {
-      shown = shows-register (memory_of kept) (memory_of (record kept { bays = slice_set kept.bays t bay })) placement world t reg address
-          bay name shows.shown (record { types = refl; layout = refl; words = λ a. refl }) (bay-written kept.bays t bay there)
-          (ready-mutator kept placement world t ready) same (ap (λ (each : Bay). each.registers) set) within
-          (mutator_at-sound world ready.sound t).0 address_is named;
+      rest = rest-register (memory_of kept) (memory_of (record kept { bays = slice_set kept.bays t bay })) placement world t reg address
+          bay name shows.rest (record { types = refl; layout = refl; words = λ a. refl }) (bay-written kept.bays t bay there)
+          (ready-mutator kept placement world t ready) same (lists-registers old bay registers set)
+          (ap (λ (each : Bay). each.registers) set) within (mutator_at-sound world ready.sound t).0 address_is named;
       words = shows.words;
       bays = length-set kept.bays t bay ∙ shows.bays;
       eight = shows.eight;
       blocked = blocked-same kept.layout.mutators kept.blocked world t _ refl shows.blocked;
-      uncollected = uncollected-bay kept.layout.mutators kept.bays world t bay there same.used shows.uncollected;
     }
 
 -- a mutator is blocked, or no longer blocked
@@ -123,13 +116,12 @@ pub shown-blocked : (kept : Kept) (placement : Placement) (world : World) (t : �
 shown-blocked kept placement world t blocked ready =
     let shows = ready.shows in
     record {
-      shown = shows-blocked (memory_of kept) placement world t blocked shows.shown;
+      rest = rest-blocked (memory_of kept) placement world t blocked shows.rest;
       words = shows.words;
       bays = shows.bays;
       eight = length-set kept.blocked t blocked ∙ shows.eight;
       blocked = blocked-changed kept.layout.mutators kept.blocked world t (record (mutator_at world t) { blocked = blocked })
           (ready-blocked kept placement world t ready) ready.mutator shows.blocked;
-      uncollected = shows.uncollected;
     }
 
 -- where 16 registers hold 0, all do
@@ -154,9 +146,9 @@ shown-end kept placement world t bay ready is rest nothing =
     let same : HasSameExtents old bay =
     subst (HasSameExtents old) (sym rest) (same-register old bay.registers (subst IsBay rest is)) in
     record {
-      shown = shows-mutator (memory_of kept) (memory_of (record kept { bays = slice_set kept.bays t bay })) placement world t bay ended
-          shows.shown (record { types = refl; layout = refl; words = λ a. refl }) (bay-written kept.bays t bay there)
-          (ready-mutator kept placement world t ready) same
+      rest = rest-mutator (memory_of kept) (memory_of (record kept { bays = slice_set kept.bays t bay })) placement world t bay ended
+          shows.rest (record { types = refl; layout = refl; words = λ a. refl }) (bay-written kept.bays t bay there)
+          (ready-mutator kept placement world t ready) same (lists-registers old bay bay.registers rest)
           (λ reg. all_nothing bay is nothing reg ∙ sym (ap (name_address placement) (replicate-at 16 reg None)))
           (λ reg. subst (IsNamePlaced placement) (sym (replicate-at 16 reg None)) tt);
       words = shows.words;
@@ -164,5 +156,4 @@ shown-end kept placement world t bay ready is rest nothing =
       eight = length-set kept.blocked t true ∙ shows.eight;
       blocked = blocked-changed kept.layout.mutators kept.blocked world t ended (ready-blocked kept placement world t ready)
           ready.mutator shows.blocked;
-      uncollected = uncollected-bay kept.layout.mutators kept.bays world t bay there same.used shows.uncollected;
     }

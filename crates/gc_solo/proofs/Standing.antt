@@ -22,6 +22,6 @@ stands-ready kept history t stands below =
     record {
       shows = stands.shown;
       sound = history-sound heap history;
-      typed = history-typed heap history stands.shown.shown.are_types (legal-fit heap history stands.legal);
-      mutator = omega (arith, below, stands.shown.shown.mutators);
+      typed = history-typed heap history stands.shown.rest.shown.are_types (legal-fit heap history stands.legal);
+      mutator = omega (arith, below, stands.shown.rest.shown.mutators);
     }

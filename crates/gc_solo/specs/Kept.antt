@@ -6,17 +6,16 @@ use Rattle.gc_layout.specs.Places.{Layout, word_count}
 use Rattle.gc_model.specs.declared.entry.RunReport.{RunReport}
 use Rattle.gc_model.specs.World.{World, is_blocked}
 use Rattle.gc_placement.specs.Memory.{Memory}
+use Rattle.gc_placement.specs.Rest.{IsAtRest}
 use Rattle.gc_placement.specs.Placement.{Placement}
-use Rattle.gc_placement.specs.Shows.{Shows}
 use Rattle.gc_solo.specs.declared.heap.Heap.{Heap}
-use Rattle.gc_solo.specs.Interim.{IsUncollected}
 
 -- the most mutators
 abbrev pub most_mutators : ℕ
 most_mutators = 8
 
 -- the types, the layout, the words by their addresses, the bay of each mutator, who is blocked, the reports of the
--- collections so far, and for how many more there is room
+-- collections so far, for how many more there is room, and whether the next one that a New brings is full
 pub record Kept : Type 0 where
   pub types : List Shape
   pub layout : Layout
@@ -25,6 +24,7 @@ pub record Kept : Type 0 where
   pub blocked : List Bool
   pub reports : List RunReport
   pub room : ℕ
+  pub due : Bool
 
 -- a bay where there is none
 abbrev pub no_bay : Bay
@@ -39,15 +39,27 @@ abbrev pub memory_of : Kept → Memory
 memory_of kept =
     record { types = kept.types; layout = kept.layout; word = λ a. slice_index kept.words a; bay = λ t. bay_at kept.bays t }
 
--- the words and bays show the world by the placement, there is a word for each address and a bay for each mutator, and
--- those are blocked that are blocked in the world
+-- the words and bays are at rest and show the world by the placement, there is a word for each address and a bay for each
+-- mutator, and those are blocked that are blocked in the world
 pub record ShowsBy (kept : Kept) (placement : Placement) (world : World) : Type 0 where
-  pub shown : Shows (memory_of kept) placement world
+  pub rest : IsAtRest (memory_of kept) placement world
   pub words : length kept.words ≡ 1 + word_count kept.layout
   pub bays : length kept.bays ≡ kept.layout.mutators
   pub eight : length kept.blocked ≡ most_mutators
   pub blocked : (t : ℕ) → t < kept.layout.mutators → slice_index_or kept.blocked t false ≡ is_blocked world t
-  pub uncollected : IsUncollected kept.layout.mutators (λ t. bay_at kept.bays t) world
+
+-- types and layout are as before
+pub record IsSameHeap (old new : Kept) : Type 0 where
+  pub types : new.types ≡ old.types
+  pub layout : new.layout ≡ old.layout
+
+-- types, layout and reports are as before
+pub record Stays (old new : Kept) : Type 0 where
+  pub types : new.types ≡ old.types
+  pub layout : new.layout ≡ old.layout
+  pub reports : new.reports ≡ old.reports
+  pub room : new.room ≡ old.room
+  pub due : new.due ≡ old.due
 
 -- what the fields of a heap keep
 abbrev pub kept_of : Heap → Kept
@@ -58,6 +70,7 @@ kept_of heap =
       words = heap.words.items;
       bays = heap.bays.items;
       blocked = heap.blocked;
-      reports = heap.reports.items;
-      room = heap.room;
+      reports = heap.book.reports;
+      room = heap.book.room;
+      due = heap.due;
     }

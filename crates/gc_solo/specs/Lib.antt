@@ -1,5 +1,9 @@
+pub mod Allocation
+pub mod Collecting
+pub mod Copying
 pub mod Fields
-pub mod Interim
 pub mod Kept
+pub mod Made
 pub mod Reports
+pub mod Runs
 pub mod Stands

@@ -1,8 +1,11 @@
 -- What it means that a heap of one thread stands for a history.
-use Rattle.std.specs.Prelude.{◌≡◌, ℕ, ◌<◌, length}
+use Rattle.std.specs.Prelude.{◌≡◌, ℕ, ◌<◌, ◌≤◌, List, [], ◌∷◌, ◌++◌, length, map}
+use Rattle.gc_model.specs.declared.call.Call.{Call}
+use Rattle.gc_model.specs.declared.entry.Entry.TheVariants.{Made, Run}
+use Rattle.gc_model.specs.declared.entry.RunReport.{RunReport}
 use Rattle.gc_model.specs.declared.reply.Reply.{Reply}
 use Rattle.gc_model.specs.Answer.{Answer}
-use Rattle.gc_model.specs.History.{Configuration, History, world_after}
+use Rattle.gc_model.specs.History.{Configuration, History, allowance_of, world_after}
 use Rattle.gc_model.specs.Laws.{IsSound, IsWellTyped}
 use Rattle.gc_model.specs.Legal.{IsLegal}
 use Rattle.gc_model.specs.World.{World}
@@ -27,13 +30,6 @@ pub record Stands (kept : Kept) : Type 0 where
   pub history : History
   pub stands : StandsFor kept history
 
--- types, layout and reports are as before
-pub record Stays (old new : Kept) : Type 0 where
-  pub types : new.types ≡ old.types
-  pub layout : new.layout ≡ old.layout
-  pub reports : new.reports ≡ old.reports
-  pub room : new.room ≡ old.room
-
 -- the heap shows a world in which each name is an object's and each object has its type's counts, and in which this
 -- mutator is one
 pub record IsReadyFor (kept : Kept) (placement : Placement) (world : World) (t : ℕ) : Type 0 where
@@ -53,3 +49,11 @@ pub record IsAnswered (kept : Kept) (reply : Reply) (answer : Answer) : Type 0 w
   pub reply_is : answer.reply ≡ reply
   pub placement : Placement
   pub shown : ShowsBy kept placement answer.world
+
+-- a heap that stood for a history stands for that one, the collections that a call brought, no more than it may, and the call with
+-- its reply
+pub record HasCalled (old new : Kept) (history : History) (t : ℕ) (call : Call) (reply : Reply) : Type 0 where
+  pub runs : List RunReport
+  pub allowed : length runs ≤ allowance_of call
+  pub reports : new.reports ≡ old.reports ++ runs
+  pub stands : StandsFor new (history ++ (map Run runs ++ Made t call reply ∷ []))

@@ -1,25 +1,36 @@
 //! The memory of a heap of one thread, and how a call is made on it. Word 0 is never used, so that an address is an
 //! index.
-ghost use Rattle.std.specs.Prelude.{◌≡◌, ◌≢◌, ◌<◌, ◌+◌, ℕ, false, length, slice_index, slice_index_or};
+ghost use Rattle.std.specs.Prelude.{◌≡◌, ◌<◌, ◌≤◌, ◌+◌, ◌++◌, ◌∷◌, [], ℕ, None, length, slice_index};
 ghost use Rattle.gc_layout.specs.Places.{word_count};
-ghost use Rattle.gc_model.specs.Answer.{Suits, effect, shape_at};
-ghost use Rattle.gc_model.specs.Built.{IsBuilt};
+ghost use Rattle.gc_model.specs.Answer.{Suits, shape_at};
 ghost use Rattle.gc_model.specs.Graph.{object_at};
-ghost use Rattle.gc_model.specs.Interim.{answer_to, has_room};
+ghost use Rattle.gc_model.specs.History.{allowance_of};
 ghost use Rattle.gc_model.specs.World.{World};
 ghost use Rattle.gc_placement.specs.Changes.{Stores};
+ghost use Rattle.gc_placement.specs.Headers.{IsHeader, head_of};
 ghost use Rattle.gc_placement.specs.Placement.{Placement};
-ghost use Rattle.gc_solo.specs.Kept.{Kept, kept_of, memory_of, most_mutators};
-ghost use Rattle.gc_solo.specs.Stands.{IsAnswered, IsReadyFor, IsReadyIn, Stays};
+ghost use Rattle.gc_solo.specs.Kept.{IsSameHeap, kept_of, memory_of};
+ghost use Rattle.gc_solo.specs.Made.{IsCallMade, IsEffect};
+ghost use Rattle.gc_solo.specs.Stands.{IsReadyFor, IsReadyIn};
 
 mod allocation;
+mod barrier;
+mod book;
+mod collection;
+mod copying;
 mod fields;
+mod marking;
 mod registers;
+mod roots;
+mod scanning;
 mod setup;
+mod sweeping;
+mod tidying;
 
+use crate::heap::book::Book;
 use gc_bay::Bay;
 use gc_layout::{Head, Places, Shape, Types};
-use gc_model::{Call, Reply, RunReport};
+use gc_model::{Call, Reply, RunKind, RunReport};
 
 /// The most mutators.
 pub(crate) const MOST_MUTATORS: usize = 8;
@@ -32,22 +43,21 @@ pub(crate) struct Heap {
     pub(crate) words: Vec<u64>,
     pub(crate) bays: Vec<Bay>,
     pub(crate) blocked: [bool; MOST_MUTATORS],
-    pub(crate) reports: Vec<RunReport>,
-    /// For how many more reports there is room.
-    pub(crate) room: u32,
+    pub(crate) book: Book,
+    /// Whether the next collection that a New brings is full.
+    pub(crate) due: bool,
 }
 
 impl Heap {
-    /// Makes a mutator's call, which isn't a Collect: refused where being blocked, or not being so, stands
-    /// against it.
+    /// Makes a mutator's call: refused where being blocked, or not being so, stands against it. A New that isn't refused may
+    /// bring collections before, and a Collect brings a full one.
     pub(crate) fn call(&mut self, t: u8, call: &Call) -> Reply
         requires ready { IsReadyIn (kept_of self.old) t }
         requires suits { Suits (length self.old.types) call.now }
-        requires built { IsBuilt call.now }
-        ensures stays { Stays (kept_of self.old) (kept_of self.new) }
-        ensures answered { (placement : Placement) (world : World) → IsReadyFor (kept_of self.old) placement world t
-            → IsAnswered (kept_of self.new) result (answer_to self.old.types self.old.places.nursery world
-            (record { mutator = t; call = call.now })) }
+        requires room { allowance_of call.now ≤ self.old.book.room }
+        ensures made { (placement : Placement) (world : World) → IsReadyFor (kept_of self.old) placement world t
+            → IsCallMade (kept_of self.old) (kept_of self.new) placement world t call.now result }
+        ensures rest { IsSameHeap (kept_of self.old) (kept_of self.new) }
     {
         match call.refusal(self.is_blocked(t)) {
             Some(refusal) => refusal,
@@ -59,11 +69,10 @@ impl Heap {
     fn make_call(&mut self, t: u8, call: &Call) -> Reply
         requires ready { IsReadyIn (kept_of self.old) t }
         requires suits { Suits (length self.old.types) call.now }
-        requires built { IsBuilt call.now }
-        ensures stays { Stays (kept_of self.old) (kept_of self.new) }
-        ensures answered { (placement : Placement) (world : World) → IsReadyFor (kept_of self.old) placement world t
-            → IsAnswered (kept_of self.new) result (effect self.old.types world t
-            (has_room self.old.types self.old.places.nursery world t call.now) call.now) }
+        requires room { allowance_of call.now ≤ self.old.book.room }
+        ensures made { (placement : Placement) (world : World) → IsReadyFor (kept_of self.old) placement world t
+            → IsEffect (kept_of self.old) (kept_of self.new) placement world t call.now result }
+        ensures rest { IsSameHeap (kept_of self.old) (kept_of self.new) }
     {
         match *call {
             Call::New { into, ty } => self.make_object(t, into, ty),
@@ -91,7 +100,10 @@ impl Heap {
             Call::Block => self.set_blocked(t, true),
             Call::Unblock => self.set_blocked(t, false),
             Call::End => self.end(t),
-            Call::Collect => unreachable!(),
+            Call::Collect => {
+                self.collect(RunKind::Full);
+                Reply::Done
+            }
         }
     }
 
@@ -103,12 +115,29 @@ impl Heap {
             → IsReadyFor (kept_of self.now) placement world t → placement number ≡ Some address
             → result ≡ shape_at self.now.types (object_at world.graph number).ty }
     {
-        let head = Head::of_word(self.word(address)).unwrap();
-        self.types.shape(head.ty).unwrap()
+        self.shape_of(address)
+    }
+
+    /// The shape of the object whose header has this address.
+    pub(crate) fn shape_of(&self, address: u64) -> Shape
+        requires header { (ty : ℕ) × IsHeader (slice_index self.now.words.items address) ty × (ty < length self.now.types) }
+        requires there { address < length self.now.words.items }
+        ensures { (ty : ℕ) → IsHeader (slice_index self.now.words.items address) ty → result ≡ shape_at self.now.types ty }
+    {
+        self.types.shape(self.head(address).ty).unwrap()
+    }
+
+    /// What the header at this address says.
+    pub(crate) fn head(&self, address: u64) -> Head
+        requires header { (ty : ℕ) × IsHeader (slice_index self.now.words.items address) ty }
+        requires there { address < length self.now.words.items }
+        ensures { result ≡ head_of (slice_index self.now.words.items address) }
+    {
+        Head::of_word(self.word(address)).unwrap()
     }
 
     /// The word of this address.
-    fn word(&self, address: u64) -> u64
+    pub(crate) fn word(&self, address: u64) -> u64
         requires { address < length self.now.words.items }
         ensures { result ≡ slice_index self.now.words.items address }
     {

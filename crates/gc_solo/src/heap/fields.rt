@@ -6,8 +6,8 @@ ghost use Rattle.gc_model.specs.World.{World};
 ghost use Rattle.gc_model.specs.declared.call.Call.TheVariants.{Get, Put, Ask, Set, SwapIf, Share, Take};
 ghost use Rattle.gc_placement.specs.Placement.{Placement};
 ghost use Rattle.gc_solo.specs.Fields.{IsNumber, IsSlot, IsSlotOf};
-ghost use Rattle.gc_solo.specs.Kept.{kept_of};
-ghost use Rattle.gc_solo.specs.Stands.{IsAnswered, IsReadyFor, IsReadyIn, Stays};
+ghost use Rattle.gc_solo.specs.Kept.{Stays, kept_of};
+ghost use Rattle.gc_solo.specs.Stands.{IsAnswered, IsReadyFor, IsReadyIn};
 
 use crate::heap::Heap;
 use gc_layout::FIRST_SLOT;
@@ -89,8 +89,9 @@ impl Heap {
     {
         match self.find_slot(t, base, place) {
             Ok(address) => {
-                let named = self.register(t, value);
-                self.store(address, named);
+                let object = self.register(t, base);
+                let name = self.register(t, value);
+                self.put_name(t, object, address, name);
                 Reply::Done
             }
             Err(refusal) => refusal,
@@ -105,9 +106,10 @@ impl Heap {
         ensures answered { (placement : Placement) (world : World) → IsReadyFor (kept_of self.old) placement world t
             → IsAnswered (kept_of self.new) result (effect self.old.types world t true (Share place value)) }
     {
+        let object = self.places.page_start(0, 0);
         let address = self.common_slot(t, place);
-        let named = self.register(t, value);
-        self.store(address, named);
+        let name = self.register(t, value);
+        self.put_name(t, object, address, name);
         Reply::Done
     }
 

@@ -4,8 +4,8 @@ ghost use Rattle.gc_model.specs.Answer.{effect, loads, does};
 ghost use Rattle.gc_model.specs.World.{World, is_blocked, with_register, with_blocked};
 ghost use Rattle.gc_model.specs.declared.call.Call.TheVariants.{Same, CopyReg, ClearReg, End};
 ghost use Rattle.gc_placement.specs.Placement.{Placement, IsNamePlaced, name_address};
-ghost use Rattle.gc_solo.specs.Kept.{ShowsBy, bay_at, kept_of};
-ghost use Rattle.gc_solo.specs.Stands.{IsAnswered, IsReadyFor, IsReadyIn, Stays};
+ghost use Rattle.gc_solo.specs.Kept.{ShowsBy, Stays, bay_at, kept_of};
+ghost use Rattle.gc_solo.specs.Stands.{IsAnswered, IsReadyFor, IsReadyIn};
 
 use crate::heap::Heap;
 use gc_layout::REGISTERS;

@@ -8,6 +8,7 @@ ghost use Rattle.gc_model.specs.World.{first_world};
 ghost use Rattle.gc_placement.specs.Placement.{Placement};
 ghost use Rattle.gc_solo.specs.Kept.{ShowsBy, bay_at, kept_of, most_mutators};
 
+use crate::heap::book::Book;
 use crate::heap::{Heap, MOST_MUTATORS};
 use gc_bay::Bay;
 use gc_layout::{NoMemory, Places, Shape, TypeNo, Types};
@@ -23,15 +24,13 @@ impl Heap {
     ) -> Result<Heap, NoMemory>
         ensures types { IfOk result (λ heap. heap.types ≡ types.now) }
         ensures places { IfOk result (λ heap. heap.places ≡ places) }
-        ensures reports { IfOk result (λ heap. heap.reports.items ≡ []) }
-        ensures room { IfOk result (λ heap. heap.room ≡ reports) }
+        ensures reports { IfOk result (λ heap. heap.book.reports ≡ []) }
+        ensures room { IfOk result (λ heap. heap.book.room ≡ reports) }
         ensures shown { IfOk result (λ heap. (placement : Placement) × ShowsBy (kept_of heap) placement (first_world places.mutators)) }
         ensures given { IfOk result (λ heap. (t : ℕ) → t < places.mutators → (bay_at heap.bays.items t).given ≡ 0) }
+        ensures due { IfOk result (λ heap. heap.due ≡ false) }
     {
         let Ok(words) = vec![in alloc; 0; 1 + places.words() as usize] else {
-            return Err(NoMemory);
-        };
-        let Ok(room) = Vec::with_capacity(alloc, reports as usize) else {
             return Err(NoMemory);
         };
         let mut heap = Heap {
@@ -40,8 +39,8 @@ impl Heap {
             words,
             bays: fresh_bays(alloc, places)?,
             blocked: [false; MOST_MUTATORS],
-            reports: room,
-            room: reports,
+            book: Book::make(alloc, reports)?,
+            due: false,
         };
         heap.make_common();
         Ok(heap)

@@ -11,6 +11,6 @@ returns-clause-answered c placement world ready =
       reply_is = refl;
       placement = placement;
       shown = c.set_register.ensures.named placement world (named_by world c.args.t c.args.source) ready
-          (c.register-address.ensures ∙ ready.shows.shown.registers c.args.t c.args.source there)
-          (ready.shows.shown.covers.registers c.args.t c.args.source);
+          (c.register-address.ensures ∙ ready.shows.rest.shown.registers c.args.t c.args.source there)
+          (ready.shows.rest.shown.covers.registers c.args.t c.args.source);
     }

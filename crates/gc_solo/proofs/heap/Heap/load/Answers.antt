@@ -10,7 +10,7 @@ pub returns-then-slot-eq0-clause-loaded : goal.returns-then-slot-eq0-clause-load
 returns-then-slot-eq0-clause-loaded c placement world name ready slot_is placed =
     let kept = kept_of c.args.self.now in
     let nothing =
-    name-nothing (memory_of kept) placement world name ready.shows.shown placed (sym slot_is ∙ c.if-slot-eq0.true) in
+    name-nothing (memory_of kept) placement world name ready.shows.rest.shown placed (sym slot_is ∙ c.if-slot-eq0.true) in
     rw nothing (answered-same kept placement world Nil ready.shows)
 
 pub returns-clause-loaded : goal.returns-clause-loaded

@@ -9,7 +9,7 @@ use Rattle.gc_solo.proofs.heap.Heap.same.Goals as goal
 pub returns-then-register : goal.returns-then-register
 returns-then-register c placement world ready =
     let kept = kept_of c.args.self.now in
-    let shown = ready.shows.shown in
+    let shown = ready.shows.rest.shown in
     let there = ready-mutator kept placement world c.args.t ready in
     let left = named_by world c.args.t c.args.left in
     let right = named_by world c.args.t c.args.right in
@@ -22,7 +22,7 @@ returns-then-register c placement world ready =
 pub returns-else-register : goal.returns-else-register
 returns-else-register c placement world ready =
     let kept = kept_of c.args.self.now in
-    let shown = ready.shows.shown in
+    let shown = ready.shows.rest.shown in
     let there = ready-mutator kept placement world c.args.t ready in
     let left = named_by world c.args.t c.args.left in
     let right = named_by world c.args.t c.args.right in
