@@ -3,12 +3,11 @@ use Rattle.std.proofs.Common.{◌≡◌, ℕ, ◌+◌, List, [], ◌∷◌, leng
 use Rattle.std.proofs.lemmas.Bool.{eqb-true}
 use Rattle.std.specs.Str.{bytes_eq}
 use Rattle.gc_model.specs.Answer.{Suits}
-use Rattle.gc_model.specs.Built.{IsBuilt}
 use Rattle.gc_model.specs.declared.call.Call.{Call}
 use Rattle.gc_model.specs.declared.call.Call.TheVariants as calls
 use Rattle.gc_model.specs.declared.call.Line.{Line}
 use Rattle.gc_script.specs.declared.calls.CallWord.{CallWord}
-use Rattle.gc_script.specs.declared.calls.CallWord.TheVariants.{New, Get, Put, Ask, Set, Swap, Same, Copy, Clear, Share, Take, Await, Safepoint, Block, Unblock}
+use Rattle.gc_script.specs.declared.calls.CallWord.TheVariants.{New, Get, Put, Ask, Set, Swap, Same, Copy, Clear, Share, Take, Await, Safepoint, Collect, Block, Unblock}
 use Rattle.gc_script.specs.declared.calls.Kind.{Kind}
 use Rattle.gc_script.specs.Calls.{each_call_word, spelled_among, call_word, spelled_word, kinds_of, call_from, parts_of, AreOfKinds, IsReadable}
 use Rattle.gc_script.specs.Grammar.{counted_word, call_of, call_line}
@@ -47,6 +46,7 @@ parts-again Share (a ∷ b ∷ []) h = refl
 parts-again Take (a ∷ b ∷ []) h = refl
 parts-again Await (a ∷ b ∷ []) h = refl
 parts-again Safepoint [] h = refl
+parts-again Collect [] h = refl
 parts-again Block [] h = refl
 parts-again Unblock [] h = refl
 parts-again word numbers h = absurd (omega arith)
@@ -65,7 +65,7 @@ pub made-readable : (types : ℕ) (word : CallWord) (numbers : List ℕ) → Are
 made-readable types word numbers h =
     rw (parts-again word numbers (kinds-length types (kinds_of word) numbers h)) h
 
--- a readable call suits the types, and is built
+-- a readable call suits the types
 pub readable-suits : (types : ℕ) (call : Call) → IsReadable types call → Suits types call
 readable-suits types (calls.New into ty) h = assumption
 readable-suits types (calls.Share place value) h = assumption
@@ -79,10 +79,6 @@ pub script_line-fit : (preamble : Preamble) (line : Line) → length preamble.na
 script_line-fit preamble line types read =
     let Fit : ℕ → Type 0 = λ count. Suits count line.call in
     (read.mutator, subst Fit types (readable-suits (length preamble.names + 1) line.call read.call))
-
-pub readable-built : (types : ℕ) (call : Call) → IsReadable types call → IsBuilt call
-readable-built types calls.Collect h = absurd h
-readable-built types call h = tt
 
 -- the call word of a call line, and how many words stand behind it
 record IsCounted (word : List ℕ) (arguments : List (List ℕ)) (kind : CallWord) : Type 0 where

@@ -10,4 +10,7 @@ pub mod ReadingLemmas
 pub mod OneSpelling
 pub mod WordLemmas
 pub mod WriteLemmas
+pub mod PlainLemmas
+pub mod ReadBackLemmas
+pub mod GeneratedLemmas
 mod Examples

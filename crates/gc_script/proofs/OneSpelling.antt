@@ -5,9 +5,8 @@ use Rattle.std.proofs.lemmas.List.Elements.{All-nil, All-cons, All-weaker}
 use Rattle.std.specs.Str.{bytes_eq}
 use Rattle.gc_layout.specs.declared.shape.Shape.{Shape}
 use Rattle.gc_layout.specs.Shape.{size_of}
-use Rattle.gc_model.specs.Built.{IsBuilt}
 use Rattle.gc_model.specs.declared.call.Line.{Line}
-use Rattle.gc_script.proofs.CallLemmas.{call_line-read, call_line-again, read_line-fits, readable-built, script_line-fit}
+use Rattle.gc_script.proofs.CallLemmas.{call_line-read, call_line-again, read_line-fits, script_line-fit}
 use Rattle.gc_script.proofs.KindLemmas.{number_below-written}
 use Rattle.gc_script.proofs.Passed.{if-passes, both-pass, at_line-ok, not_refused-ok, bytes_eq-true}
 use Rattle.gc_script.specs.declared.fault.Cause.TheVariants.{«Type» as TypeCause, Mutator}
@@ -388,14 +387,9 @@ pub read_back-types : (script : Script) → IsReadBack script → length script.
 unfolding IsReadBack
 read_back-types script h = let read = lines-read (lines_of (written script)) script h in read.types
 
--- so each line is fit, and built
+-- so each line is fit
 pub read_back-fit : (script : Script) → IsReadBack script → All (IsFitLine script.preamble) script.lines
 read_back-fit script h = All-weaker (IsScriptLine script.preamble) (IsFitLine script.preamble) fit script.lines
     (read_back-lines script h) where
       fit : (line : Line) → IsScriptLine script.preamble line → IsFitLine script.preamble line
       fit line read = script_line-fit script.preamble line (read_back-types script h) read
-
-pub read_back-built : (script : Script) → IsReadBack script → All (λ line. IsBuilt line.call) script.lines
-read_back-built script h =
-    All-weaker (IsScriptLine script.preamble) (λ line. IsBuilt line.call)
-    (λ line read. readable-built (length script.preamble.names + 1) line.call read.call) script.lines (read_back-lines script h)

@@ -3,7 +3,7 @@ use Rattle.std.proofs.Common.{◌≡◌, ℕ, ◌≤◌, List, [], ◌∷◌, le
 use Rattle.std.proofs.lemmas.Bool.Decides.{nat_tests}
 use Rattle.gc_model.specs.declared.call.Line.{Line}
 use Rattle.gc_script.specs.declared.calls.CallWord.{CallWord}
-use Rattle.gc_script.specs.declared.calls.CallWord.TheVariants.{New, Get, Put, Ask, Set, Swap, Same, Copy, Clear, Share, Take, Await, Safepoint, Block, Unblock}
+use Rattle.gc_script.specs.declared.calls.CallWord.TheVariants.{New, Get, Put, Ask, Set, Swap, Same, Copy, Clear, Share, Take, Await, Safepoint, Collect, Block, Unblock}
 use Rattle.gc_script.specs.declared.fault.Cause.{Cause}
 use Rattle.gc_script.specs.declared.fault.Cause.TheVariants.{Word}
 use Rattle.gc_script.specs.Calls.{call_word, kinds_of}
@@ -46,6 +46,7 @@ kinds-few Share = lit≤ tt
 kinds-few Take = lit≤ tt
 kinds-few Await = lit≤ tt
 kinds-few Safepoint = lit≤ tt
+kinds-few Collect = lit≤ tt
 kinds-few Block = lit≤ tt
 kinds-few Unblock = lit≤ tt
 

@@ -6,7 +6,7 @@ use Rattle.gc_layout.specs.Sizes.{common_slots, register_count}
 use Rattle.gc_model.specs.declared.call.Call.{Call}
 use Rattle.gc_model.specs.declared.call.Call.TheVariants as calls
 use Rattle.gc_script.specs.declared.calls.CallWord.{CallWord}
-use Rattle.gc_script.specs.declared.calls.CallWord.TheVariants.{New, Get, Put, Ask, Set, Swap, Same, Copy, Clear, Share, Take, Await, Safepoint, Block, Unblock}
+use Rattle.gc_script.specs.declared.calls.CallWord.TheVariants.{New, Get, Put, Ask, Set, Swap, Same, Copy, Clear, Share, Take, Await, Safepoint, Collect, Block, Unblock}
 use Rattle.gc_script.specs.declared.calls.Kind.{Kind}
 use Rattle.gc_script.specs.declared.calls.Kind.TheVariants.{Register, Small, CommonPlace, Number, TypeName}
 use Rattle.gc_script.specs.declared.fault.Cause.{Cause}
@@ -15,7 +15,7 @@ use Rattle.gc_script.specs.declared.fault.Cause.TheVariants.{Word}
 -- the call words
 abbrev pub each_call_word : List CallWord
 each_call_word =
-    New ∷ Get ∷ Put ∷ Ask ∷ Set ∷ Swap ∷ Same ∷ Copy ∷ Clear ∷ Share ∷ Take ∷ Await ∷ Safepoint ∷ Block ∷ Unblock ∷ []
+    New ∷ Get ∷ Put ∷ Ask ∷ Set ∷ Swap ∷ Same ∷ Copy ∷ Clear ∷ Share ∷ Take ∷ Await ∷ Safepoint ∷ Collect ∷ Block ∷ Unblock ∷ []
 
 -- how a call word is spelled
 abbrev pub spelled_word : CallWord → List ℕ
@@ -32,6 +32,7 @@ spelled_word Share = codes "share"
 spelled_word Take = codes "take"
 spelled_word Await = codes "await"
 spelled_word Safepoint = codes "safepoint"
+spelled_word Collect = codes "collect"
 spelled_word Block = codes "block"
 spelled_word Unblock = codes "unblock"
 
@@ -59,6 +60,7 @@ kinds_of Share = CommonPlace ∷ Register ∷ []
 kinds_of Take = Register ∷ CommonPlace ∷ []
 kinds_of Await = Register ∷ CommonPlace ∷ []
 kinds_of Safepoint = []
+kinds_of Collect = []
 kinds_of Block = []
 kinds_of Unblock = []
 
@@ -78,10 +80,11 @@ call_from Share numbers = calls.Share (slice_index numbers 0) (slice_index numbe
 call_from Take numbers = calls.Take (slice_index numbers 0) (slice_index numbers 1)
 call_from Await numbers = calls.Await (slice_index numbers 0) (slice_index numbers 1)
 call_from Safepoint numbers = calls.Safepoint
+call_from Collect numbers = calls.Collect
 call_from Block numbers = calls.Block
 call_from Unblock numbers = calls.Unblock
 
--- the call word of a call and the numbers behind it; no line of a script makes Collect or End
+-- the call word of a call and the numbers behind it; no line of a script makes an End
 abbrev pub parts_of : Call → Option (CallWord × List ℕ)
 parts_of (calls.New into ty) = Some (New, into ∷ ty.0 ∷ [])
 parts_of (calls.Get into base place) = Some (Get, into ∷ base ∷ place ∷ [])
@@ -96,9 +99,9 @@ parts_of (calls.Share place value) = Some (Share, place ∷ value ∷ [])
 parts_of (calls.Take into place) = Some (Take, into ∷ place ∷ [])
 parts_of (calls.Await into place) = Some (Await, into ∷ place ∷ [])
 parts_of calls.Safepoint = Some (Safepoint, [])
+parts_of calls.Collect = Some (Collect, [])
 parts_of calls.Block = Some (Block, [])
 parts_of calls.Unblock = Some (Unblock, [])
-parts_of calls.Collect = None
 parts_of calls.End = None
 
 -- a number that a word of a kind can give, where there are so many types

@@ -1,5 +1,6 @@
 pub mod Calls
 pub mod Fault
+pub mod Generated
 pub mod Grammar
 pub mod Laws
 pub mod Script
@@ -7,4 +8,3 @@ pub mod Text
 pub mod Words
 pub mod Written
 pub use Rattle.gc_layout.specs.Shape
-pub use Rattle.gc_model.specs.Interim

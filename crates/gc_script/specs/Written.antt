@@ -52,7 +52,7 @@ abbrev pub words_of_parts : List (List ℕ) → Option (CallWord × List ℕ) �
 words_of_parts names None = []
 words_of_parts names (Some parts) = spelled_word parts.0 ∷ words_of_kinds names (kinds_of parts.0) parts.1
 
--- the words of a call. Collect and End, which no line of a script makes, have none
+-- the words of a call. End, which no line of a script makes, has none
 abbrev pub call_words : List (List ℕ) → Call → List (List ℕ)
 call_words names call = words_of_parts names (parts_of call)
 

@@ -63,6 +63,7 @@ fn call_of(names: &Names, word: CallWord, words: &[&[u8]]) -> Result<Call, Cause
         CallWord::Take => take_call(words),
         CallWord::Await => await_call(words),
         CallWord::Safepoint => Ok(Call::Safepoint),
+        CallWord::Collect => Ok(Call::Collect),
         CallWord::Block => Ok(Call::Block),
         CallWord::Unblock => Ok(Call::Unblock),
     }

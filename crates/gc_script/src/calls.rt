@@ -30,6 +30,7 @@ pub(crate) enum CallWord {
     Take,
     Await,
     Safepoint,
+    Collect,
     Block,
     Unblock,
 }
@@ -65,7 +66,7 @@ pub(crate) fn kinds_of(word: CallWord) -> &'static [Kind]
         CallWord::Clear => &[Kind::Register],
         CallWord::Share => &[Kind::CommonPlace, Kind::Register],
         CallWord::Take | CallWord::Await => &[Kind::Register, Kind::CommonPlace],
-        CallWord::Safepoint | CallWord::Block | CallWord::Unblock => &[],
+        CallWord::Safepoint | CallWord::Collect | CallWord::Block | CallWord::Unblock => &[],
     }
 }
 
@@ -88,6 +89,7 @@ pub(crate) fn spelled_word(word: CallWord) -> &'static [u8]
         CallWord::Take => b"take",
         CallWord::Await => b"await",
         CallWord::Safepoint => b"safepoint",
+        CallWord::Collect => b"collect",
         CallWord::Block => b"block",
         CallWord::Unblock => b"unblock",
     }
@@ -112,14 +114,14 @@ pub(crate) fn call_word(word: &[u8]) -> Result<CallWord, Cause>
         b"take" => Ok(CallWord::Take),
         b"await" => Ok(CallWord::Await),
         b"safepoint" => Ok(CallWord::Safepoint),
+        b"collect" => Ok(CallWord::Collect),
         b"block" => Ok(CallWord::Block),
         b"unblock" => Ok(CallWord::Unblock),
         _ => Err(Cause::Word),
     }
 }
 
-/// The call word of a call and the numbers behind it. None exactly at Collect and End, which no line of a script
-/// makes.
+/// The call word of a call and the numbers behind it. None exactly at End, which no line of a script makes.
 pub(crate) fn parts_of(call: &Call) -> Option<(CallWord, Numbers)>
     ensures parts { MatchOption result (parts_of call.now ≡ None)
         (λ parts. parts_of call.now ≡ Some (parts.0, parts.1.items)) }
@@ -166,9 +168,10 @@ pub(crate) fn parts_of(call: &Call) -> Option<(CallWord, Numbers)>
             (CallWord::Await, numbers(&[number(into), u64::from(place)]))
         }
         Call::Safepoint => (CallWord::Safepoint, numbers(&[])),
+        Call::Collect => (CallWord::Collect, numbers(&[])),
         Call::Block => (CallWord::Block, numbers(&[])),
         Call::Unblock => (CallWord::Unblock, numbers(&[])),
-        Call::Collect | Call::End => return None,
+        Call::End => return None,
     })
 }
 

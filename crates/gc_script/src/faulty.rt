@@ -255,7 +255,8 @@ fn the_words_of_a_call_line_are_counted(rt: HostRuntime) -> Result<(), Fail> {
         "0 newer r0 box",
         "0 ne r0 box",
         "0 end",
-        "0 collect",
+        "0 collects",
+        "0 Collect",
         "0  clear r0",
         " 0 clear r0",
         "0 new\tr0 box",
@@ -291,6 +292,8 @@ fn the_words_of_a_call_line_are_counted(rt: HostRuntime) -> Result<(), Fail> {
         "0 await r0 0 0",
         "0 safepoint 0",
         "0 safepoint ",
+        "0 collect 0",
+        "0 collect ",
         "0 block 0",
         "0 unblock 0",
         // Of two tests that fail the earlier is told.

@@ -1,6 +1,6 @@
 //! The call lines of a script, as a list.
 
-ghost use Rattle.std.specs.Prelude.{◌≡◌, [], ◌∷◌, ◌++◌, length, slice_get, OnOk, OnErr};
+ghost use Rattle.std.specs.Prelude.{◌≡◌, [], ◌∷◌, ◌++◌, length, slice_get, IfOk, OnOk, OnErr};
 
 use gc_model::Line;
 use std::alloc::{AllocError, Global};
@@ -28,6 +28,15 @@ impl Lines {
         Lines {
             lines: Vec::new(alloc),
         }
+    }
+
+    /// No lines, with room for so many.
+    pub(crate) fn with_capacity(alloc: Global, room: usize) -> Result<Lines, AllocError>
+        ensures { IfOk result (λ lines. lines ≡ []) }
+    {
+        Ok(Lines {
+            lines: Vec::with_capacity(alloc, room)?,
+        })
     }
 
     pub(crate) fn push(&mut self, line: Line) -> Result<(), AllocError>

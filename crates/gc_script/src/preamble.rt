@@ -114,7 +114,7 @@ impl Preamble {
 
     /// What is declared with one more type, whose name is a type name and isn't in use.
     #[tactic(auto, unfolding(crate::specs::Grammar::with_type))]
-    fn with_type(
+    pub(crate) fn with_type(
         self,
         alloc: Global,
         name: &[u8],

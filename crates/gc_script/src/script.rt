@@ -1,7 +1,6 @@
 //! A script as its callers see it.
 
 ghost use Rattle.std.specs.Prelude.{◌≡◌, ◌<◌, ◌≤◌, ◌↔◌, length, slice_get, IsNone, IfSome};
-ghost use Rattle.gc_model.specs.Built.{IsBuilt};
 ghost use Rattle.gc_script.specs.Text.{most_bytes};
 
 use crate::lines::Lines;
@@ -70,14 +69,13 @@ impl Script {
     }
 
     /// How many call lines there are. Each is one that a call line can be read as: its mutator is there, its call is
-    /// no End and no Collect, its type is declared and not the common object's, and its place of the common object is
+    /// no End, its type is declared and not the common object's, and its place of the common object is
     /// below 16.
     pub fn count(&self) -> usize
         ensures count { result ≡ length self.now.lines }
         ensures most { result ≤ most_bytes }
         ensures lines { All (IsScriptLine self.now.preamble) self.now.lines }
         ensures fit { All (IsFitLine self.now.preamble) self.now.lines }
-        ensures built { All (λ line. IsBuilt line.call) self.now.lines }
     {
         self.lines.len()
     }
@@ -90,7 +88,6 @@ impl Script {
         ensures read_back { IfSome result (IsReadLine self.now.preamble) }
         ensures readable { IfSome result (IsScriptLine self.now.preamble) }
         ensures fit { IfSome result (IsFitLine self.now.preamble) }
-        ensures built { IfSome result (λ line. IsBuilt line.call) }
     {
         self.lines.get(i)
     }

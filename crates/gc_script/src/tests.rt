@@ -32,6 +32,7 @@ const EACH_CALL_WORD: &str = "moar-gc 1\n\
     7 take r1 3\n\
     7 await r1 3\n\
     7 safepoint\n\
+    7 collect\n\
     7 block\n\
     7 unblock\n";
 
@@ -51,7 +52,7 @@ fn texts_are_read_by_the_grammar(rt: HostRuntime) {
         ("moar-gc 1\nmutators 2", 0),
         ("moar-gc 1\nmutators 2\n", 0),
         ("moar-gc 1\nmutators 8\n7 clear r15\n", 1),
-        (EACH_CALL_WORD, 15),
+        (EACH_CALL_WORD, 16),
         ("moar-gc 1\nmutators 1\n0 clear r0\n", 1),
         ("moar-gc 1\nmutators 1\n0 share 15 r0\n", 1),
         ("moar-gc 1\nmutators 1\ntype wide 62 0\n", 0),
@@ -143,12 +144,13 @@ fn each_call_word_reads_as_its_call(rt: HostRuntime) -> Result<(), Fail> {
             place: 3,
         },
         Call::Safepoint,
+        Call::Collect,
         Call::Block,
         Call::Unblock,
     ];
     let script = read_script(rt.alloc(), EACH_CALL_WORD.as_bytes())?;
     assert_eq!(rt; script.mutators(), 8);
-    assert_eq!(rt; script.count(), 15);
+    assert_eq!(rt; script.count(), 16);
     for (i, call) in calls.iter().enumerate() {
         let line = Line {
             mutator: 7,

@@ -49,6 +49,7 @@ const EACH_WORD: &str = "moar-gc 1\n\
     7 take r0 15\n\
     7 await r15 0\n\
     7 safepoint\n\
+    7 collect\n\
     7 block\n\
     7 unblock\n";
 
@@ -153,7 +154,7 @@ fn each_line_of_a_long_script_is_one_piece(rt: HostRuntime) -> Result<(), Fail> 
 // Each call fails in turn, and then one that isn't made.
 #[test]
 fn nothing_is_put_behind_a_fault(rt: HostRuntime) -> Result<(), Fail> {
-    for (text, lines) in [(BARE, 2), (TYPES, 4), (FIVE_LINES, 5), (EACH_WORD, 25)] {
+    for (text, lines) in [(BARE, 2), (TYPES, 4), (FIVE_LINES, 5), (EACH_WORD, 26)] {
         for failing in 1..lines + 2 {
             let (put, record) = write(rt.alloc(), text, failing)?;
             let before = recorded(rt.alloc(), text, failing)?;

@@ -14,3 +14,9 @@ unfolding call_word
 returns-in-safepoint c =
     let is : c.args.word.now ≡ codes "safepoint" = text_from_reads _ (codes "safepoint") (omega arith) (search rules) in
     rw is refl
+
+pub returns-in-collect : goal.returns-in-collect
+unfolding call_word
+returns-in-collect c =
+    let is : c.args.word.now ≡ codes "collect" = text_from_reads _ (codes "collect") (omega arith) (search rules) in
+    rw is refl

@@ -1,4 +1,4 @@
-use Rattle.gc_script.proofs.OneSpelling.{read_back-lines, read_back-fit, read_back-built}
+use Rattle.gc_script.proofs.OneSpelling.{read_back-lines, read_back-fit}
 use Rattle.gc_script.proofs.script.Script.count.Goals as goal
 
 pub returns-clause-lines : goal.returns-clause-lines
@@ -6,6 +6,3 @@ returns-clause-lines c = rw (← c.self.view_is) (read_back-lines _ c.self.invar
 
 pub returns-clause-fit : goal.returns-clause-fit
 returns-clause-fit c = rw (← c.self.view_is) (read_back-fit _ c.self.invariant.read_back)
-
-pub returns-clause-built : goal.returns-clause-built
-returns-clause-built c = rw (← c.self.view_is) (read_back-built _ c.self.invariant.read_back)

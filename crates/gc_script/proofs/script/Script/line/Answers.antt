@@ -1,8 +1,7 @@
-use Rattle.gc_model.specs.Built.{IsBuilt}
 use Rattle.gc_script.specs.Laws.{IsReadLine}
 use Rattle.gc_script.specs.Script.{IsFitLine, IsScriptLine}
 use Rattle.gc_script.proofs.ListLemmas.{All-slice_get}
-use Rattle.gc_script.proofs.OneSpelling.{read_back-again, read_back-lines, read_back-fit, read_back-built}
+use Rattle.gc_script.proofs.OneSpelling.{read_back-again, read_back-lines, read_back-fit}
 use Rattle.gc_script.proofs.script.Script.line.Goals as goal
 
 pub returns-clause-read_back : goal.returns-clause-read_back
@@ -22,7 +21,3 @@ returns-clause-fit c =
     rw (c.get.ensures, ← c.self.view_is)
     (All-slice_get (IsFitLine c.self.inside.preamble) c.self.inside.lines c.args.i
     (read_back-fit _ c.self.invariant.read_back))
-
-pub returns-clause-built : goal.returns-clause-built
-returns-clause-built c =
-    rw c.get.ensures (All-slice_get (λ line. IsBuilt line.call) c.self.inside.lines c.args.i (read_back-built _ c.self.invariant.read_back))
