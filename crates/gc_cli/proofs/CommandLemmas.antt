@@ -1,5 +1,5 @@
--- The words of the command line: numbers within limits, and one option behind another.
-use Rattle.std.proofs.Common.{◌≡◌, ◌≢◌, ◌⊎◌, inl, inr, ℕ, ◌<◌, ◌≤◌, ◌^◌, List, [], ◌∷◌, length, map, take, drop, ◌-◌, codes, slice_get, get_or, Bool, true, false, Some, None, Result, Ok, Err, if◌then◌else◌, nat_le, nat_lt, ◌&&◌, refl, sym, ◌∙◌, ap, arith}
+-- The numbers of the command line, within their limits.
+use Rattle.std.proofs.Common.{◌≡◌, ◌≢◌, ◌⊎◌, inl, inr, ℕ, ◌<◌, ◌≤◌, ◌^◌, List, [], ◌∷◌, length, map, take, drop, ◌-◌, slice_get, get_or, Bool, true, false, Some, None, Result, Ok, Err, if◌then◌else◌, nat_le, nat_lt, ◌&&◌, refl, sym, ◌∙◌, ap, arith}
 use Rattle.std.specs.Bool.{then_some}
 use Rattle.std.specs.Result.{OkIff, result_ok}
 use Rattle.std.specs.Str.{all_ascii_digits}
@@ -8,8 +8,7 @@ use Rattle.std.proofs.lemmas.Bool.Decides.{nat_tests}
 use Rattle.std.proofs.lemmas.List.{take_all}
 use Rattle.std.proofs.lemmas.Str.Parse.{numerals_by_value, tells_all_ascii_digits, parse_plain, IsNumeralModel}
 use Rattle.gc_script.specs.Words.{numeral, is_numeral}
-use Rattle.gc_cli.specs.declared.command.Given.{Given}
-use Rattle.gc_cli.specs.Command.{given_by, number_within, with_nursery, with_pages, with_reports, within}
+use Rattle.gc_cli.specs.Command.{number_within, request_of, within}
 
 -- a number above the limits isn't within them
 within-above : (least most number : ℕ) → most < number → within least most (Some number) ≡ None
@@ -116,42 +115,6 @@ number_within-parsed least most (head ∷ rest) first r few is no_sign no_zero p
     number_within-ok least most (head ∷ rest) r few (is_numeral-digits head rest other) (omega arith)
     (parse_plain digits 32 (head ∷ rest) r parsed differs)
 
--- `--reports` and what stands behind it
-given_by-reports_cons : (given more : Given) (words : List (List ℕ)) → with_reports given ≡ Some more
-    → given_by given (codes "--reports" ∷ words) ≡ given_by more words
-unfolding given_by
-given_by-reports_cons given more [] reported = reported
-given_by-reports_cons given more (next ∷ words) reported = rw reported refl
-
--- `--nursery`, its value, and what stands behind it
-given_by-nursery_cons : (given more : Given) (value : List ℕ) (words : List (List ℕ)) → with_nursery given value ≡ Some more
-    → given_by given (codes "--nursery" ∷ value ∷ words) ≡ given_by more words
-unfolding given_by
-given_by-nursery_cons given more value words asked = rw asked refl
-
--- `--pages`, its value, and what stands behind it
-given_by-pages_cons : (given more : Given) (value : List ℕ) (words : List (List ℕ)) → with_pages given value ≡ Some more
-    → given_by given (codes "--pages" ∷ value ∷ words) ≡ given_by more words
-unfolding given_by
-given_by-pages_cons given more value words asked = rw asked refl
-
--- words of which the first is `--reports`
-pub given_by-reports : (given more : Given) (words rest : List (List ℕ)) (word : List ℕ) → words ≡ word ∷ rest
-    → word ≡ codes "--reports" → with_reports given ≡ Some more → given_by given words ≡ given_by more rest
-given_by-reports given more words rest word first is reported = rw (first, is) (given_by-reports_cons given more rest reported)
-
--- words of which the first is `--nursery`
-pub given_by-nursery : (given more : Given) (words rest last : List (List ℕ)) (word value : List ℕ) → words ≡ word ∷ rest
-    → rest ≡ value ∷ last → word ≡ codes "--nursery" → with_nursery given value ≡ Some more → given_by given words ≡ given_by more last
-given_by-nursery given more words rest last word value first second is asked =
-    rw (first, second, is) (given_by-nursery_cons given more value last asked)
-
--- words of which the first is `--pages`
-pub given_by-pages : (given more : Given) (words rest last : List (List ℕ)) (word value : List ℕ) → words ≡ word ∷ rest
-    → rest ≡ value ∷ last → word ≡ codes "--pages" → with_pages given value ≡ Some more → given_by given words ≡ given_by more last
-given_by-pages given more words rest last word value first second is asked =
-    rw (first, second, is) (given_by-pages_cons given more value last asked)
-
 -- words by the first of them, and what stands behind it
 pub words-first : {W : Type 0} (view : W → List ℕ) (words : List W) (word : W) → 1 ≤ length words → word ≡ get_or words 0 word
     → map view words ≡ view word ∷ map view (take (length words - 1) (drop 1 words))
@@ -159,3 +122,9 @@ words-first view [] word there first = absurd (omega arith)
 words-first view (head ∷ rest) word there first =
     let all : take (length (head ∷ rest) - 1) rest ≡ rest = take_all _ rest (omega arith) in
     rw (all, first) refl
+
+-- no words ask for nothing
+pub request_of-empty : {W : Type 0} (view : W → List ℕ) (words : List W) → length words < 1 → None ≡ request_of (map view words)
+unfolding request_of
+request_of-empty view [] none = refl
+request_of-empty view (head ∷ rest) none = absurd (omega arith)

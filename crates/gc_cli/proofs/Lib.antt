@@ -1,5 +1,11 @@
 pub mod AllowedLemmas
 pub mod CommandLemmas
+pub mod Examples
+pub mod FindLemmas
 pub mod Lists
+pub mod MakeLemmas
+pub mod PieceLemmas
 pub mod PlayLemmas
 pub mod TextLemmas
+pub mod WalkLemmas
+pub mod WordLemmas

@@ -1,17 +1,13 @@
 -- The command line, and the line on standard error.
-use Rattle.std.specs.Prelude.{ℕ, List, [], ◌∷◌, ◌++◌, Option, Some, None, true, false, ◌==◌, ◌&&◌, nat_le, is_some, unwrap_or, option_and_then, if◌then◌else◌, codes, decimal}
+use Rattle.std.specs.Prelude.{ℕ, List, [], ◌∷◌, ◌++◌, length, map, filter, drop, Option, Some, None, Bool, true, false, ◌==◌, ◌&&◌, ◌||◌, nat_le, option_map, if◌then◌else◌, codes, decimal}
+use Rattle.std.specs.List.{before_first, after_first}
 use Rattle.std.specs.Str.{bytes_eq}
 use Rattle.gc_script.specs.Words.{numeral}
-use Rattle.gc_cli.specs.declared.command.Given.{Given}
 use Rattle.gc_cli.specs.declared.command.Request.{Request}
-use Rattle.gc_cli.specs.declared.command.Request.TheVariants.{Play}
+use Rattle.gc_cli.specs.declared.command.Request.TheVariants.{Play, Make, Drill}
 use Rattle.gc_cli.specs.declared.opts.Opts.{Opts}
 use Rattle.gc_cli.specs.declared.status.Status.{Status}
 use Rattle.gc_cli.specs.declared.status.Status.TheVariants.{Done, Usage, Bad, Long, ReadFault, WriteFault, NoMemory}
-
--- the options where none is given
-abbrev pub default_opts : Opts
-default_opts = record { nursery = 4096; pages = 8; reports = false; summary = false }
 
 -- a number that is there, and lies within these limits
 abbrev pub within : ℕ → ℕ → Option ℕ → Option ℕ
@@ -22,50 +18,106 @@ within least most (Some number) = if nat_le least number && nat_le number most t
 unfoldable pub number_within : ℕ → ℕ → List ℕ → Option ℕ
 number_within least most word = within least most (numeral word)
 
--- before the first option nothing is given
-abbrev pub nothing_given : Given
-nothing_given = record { nursery = None; pages = None; reports = false }
+-- a piece of the words behind a mode, by its name and its value: an option is named by its word without the two
+-- hyphens, a flag has an empty value, and a number that stands alone is named `rounds`
+abbrev pub Piece : Type 0
+Piece = List ℕ × List ℕ
 
--- besides, `--nursery` with this value: the words of a half, 64 to 65,536, where they weren't given before
-unfoldable pub with_nursery : Given → List ℕ → Option Given
-with_nursery given value =
-    if is_some given.nursery then None else
-    option_and_then (λ words. Some (record given { nursery = Some words })) (number_within 64 65536 value)
+-- the options that take a value
+abbrev pub takes_value : List ℕ → Bool
+takes_value word = bytes_eq word (codes "--nursery") || bytes_eq word (codes "--pages")
 
--- besides, `--pages` with this value: the pages of a mutator, 1 to 128, where they weren't given before
-unfoldable pub with_pages : Given → List ℕ → Option Given
-with_pages given value =
-    if is_some given.pages then None else
-    option_and_then (λ pages. Some (record given { pages = Some pages })) (number_within 1 128 value)
+-- the options that take none
+abbrev pub is_flag : List ℕ → Bool
+is_flag word = bytes_eq word (codes "--reports") || bytes_eq word (codes "--summary")
 
--- besides, `--reports`, where it wasn't given before
-unfoldable pub with_reports : Given → Option Given
-with_reports given = if given.reports then None else Some (record given { reports = true })
+-- an option's name
+abbrev pub name_of : List ℕ → List ℕ
+name_of word = drop 2 word
 
--- what is given by options, behind what is given before them; None where a word is no option, where an option stands
--- twice or lacks its value, or where a value is out of form or out of its limits
-unfoldable pub given_by : Given → List (List ℕ) → Option Given
-given_by given [] = Some given
-given_by given (word ∷ []) = if bytes_eq word (codes "--reports") then with_reports given else None
-given_by given (word ∷ next ∷ words) =
-    if bytes_eq word (codes "--reports") then option_and_then (λ more. given_by more (next ∷ words)) (with_reports given) else (
-    if bytes_eq word (codes "--nursery") then option_and_then (λ more. given_by more words) (with_nursery given next) else (
-    if bytes_eq word (codes "--pages") then option_and_then (λ more. given_by more words) (with_pages given next) else None))
+-- what stands in a word before its first `=` (61), and what behind it
+abbrev pub before_equals : List ℕ → List ℕ
+before_equals word = before_first (λ byte. byte == 61) word
 
--- the options by what is given: the default where nothing is
-abbrev pub opts_of : Given → Opts
-opts_of given = record {
-  nursery = unwrap_or given.nursery default_opts.nursery;
-  pages = unwrap_or given.pages default_opts.pages;
-  reports = given.reports;
-  summary = default_opts.summary;
-}
+abbrev pub after_equals : List ℕ → List ℕ
+after_equals word = after_first (λ byte. byte == 61) word
 
--- what the words ask for: `play`, and then options
+-- the piece that one word is: a flag, an option with its value behind `=`, or else a number. So a word that is none of
+-- these is read for a number, and an option that lacks its value has an empty one; neither writes a number
+abbrev pub piece_of : List ℕ → Piece
+piece_of word =
+    if is_flag word then (name_of word, []) else (
+    if takes_value (before_equals word) then (name_of (before_equals word), after_equals word) else (codes "rounds", word))
+
+-- the pieces of the words; an option without `=` is one with the next word
+unfoldable pub pieces_of : List (List ℕ) → List Piece
+pieces_of [] = []
+pieces_of (word ∷ []) = piece_of word ∷ []
+pieces_of (word ∷ next ∷ words) =
+    if takes_value word then (name_of word, next) ∷ pieces_of words else piece_of word ∷ pieces_of (next ∷ words)
+
+-- the values of the pieces with a name
+abbrev pub values_of : List ℕ → List Piece → List (List ℕ)
+values_of name pieces = map (λ piece. piece.1) (filter (λ piece. bytes_eq piece.0 name) pieces)
+
+-- the number that pieces of one name give by their values: at most one of them, within these limits; else the default
+abbrev pub number_given : ℕ → ℕ → Option ℕ → List (List ℕ) → Option ℕ
+number_given least most default [] = default
+number_given least most default (value ∷ []) = number_within least most value
+number_given least most default (value ∷ second ∷ more) = None
+
+-- whether a flag is given, by its values: at most once
+abbrev pub flag_given : List (List ℕ) → Option Bool
+flag_given [] = Some false
+flag_given (value ∷ []) = Some true
+flag_given (value ∷ second ∷ more) = None
+
+-- the options where none is given
+abbrev pub default_opts : Opts
+default_opts = record { nursery = 4096; pages = 8; reports = false; summary = false }
+
+-- the options, where each of them is right
+abbrev pub opts_from : Option ℕ → Option ℕ → Option Bool → Option Bool → Option Opts
+opts_from (Some nursery) (Some pages) (Some reports) (Some summary) =
+    Some (record { nursery = nursery; pages = pages; reports = reports; summary = summary })
+opts_from _ _ _ _ = None
+
+-- the options that pieces give, with their limits
+abbrev pub opts_of : List Piece → Option Opts
+opts_of pieces = opts_from
+    (number_given 64 65536 (Some default_opts.nursery) (values_of (codes "nursery") pieces))
+    (number_given 1 128 (Some default_opts.pages) (values_of (codes "pages") pieces))
+    (flag_given (values_of (codes "reports") pieces))
+    (flag_given (values_of (codes "summary") pieces))
+
+-- the number of rounds that pieces give
+abbrev pub rounds_of : List Piece → Option ℕ
+rounds_of pieces = number_given 1 100000 None (values_of (codes "rounds") pieces)
+
+-- `play` and options, with no number
+abbrev pub play_of : List Piece → Option Request
+play_of pieces = if length (values_of (codes "rounds") pieces) == 0 then option_map Play (opts_of pieces) else None
+
+-- `make` and a number, with nothing else
+abbrev pub make_of : List (List ℕ) → Option Request
+make_of (word ∷ []) = option_map Make (number_within 1 100000 word)
+make_of _ = None
+
+-- `drill`, a number and options
+abbrev pub drill_from : Option ℕ → Option Opts → Option Request
+drill_from (Some rounds) (Some opts) = Some (Drill rounds opts)
+drill_from _ _ = None
+
+abbrev pub drill_of : List Piece → Option Request
+drill_of pieces = drill_from (rounds_of pieces) (opts_of pieces)
+
+-- what the words ask for: the mode is the first of them
 unfoldable pub request_of : List (List ℕ) → Option Request
 request_of [] = None
 request_of (mode ∷ words) =
-    if bytes_eq mode (codes "play") then option_and_then (λ given. Some (Play (opts_of given))) (given_by nothing_given words) else None
+    if bytes_eq mode (codes "play") then play_of (pieces_of words) else (
+    if bytes_eq mode (codes "make") then make_of words else (
+    if bytes_eq mode (codes "drill") then drill_of (pieces_of words) else None))
 
 -- the word of a cause, by its number
 abbrev pub cause_text : ℕ → List ℕ

@@ -1,5 +1,5 @@
 -- What a run of the program read, played and printed.
-use Rattle.std.specs.Prelude.{◌≡◌, ℕ, ◌+◌, ◌<◌, ◌≤◌, List, [], ◌++◌, length, filter, sum_by, take, Option, IfSome}
+use Rattle.std.specs.Prelude.{◌≡◌, ◌≢◌, ℕ, ◌+◌, ◌<◌, ◌≤◌, List, [], ◌++◌, length, filter, sum_by, take, true, Option, Some, IfSome}
 use Rattle.gc_io.specs.Faults.{HasRisen}
 use Rattle.gc_io.specs.Streams.{GivesUp, Appends, AppendsPrefix}
 use Rattle.gc_layout.specs.Sizes.{largest_size}
@@ -7,16 +7,19 @@ use Rattle.gc_model.specs.declared.call.Line.{Line}
 use Rattle.gc_model.specs.declared.reply.Reply.{Reply}
 use Rattle.gc_model.specs.History.{Configuration, History, FitsScript, allowance_of, ends_of, is_collection, lines_in, replies_in}
 use Rattle.gc_model.specs.Legal.{IsLegal}
+use Rattle.gc_script.specs.Generated.{generated}
 use Rattle.gc_script.specs.Grammar.{IsScript, IsFirstFault}
 use Rattle.gc_script.specs.Script.{Script}
 use Rattle.gc_script.specs.Text.{most_bytes}
+use Rattle.gc_script.specs.Written.{written}
 use Rattle.gc_solo.specs.Kept.{Kept}
 use Rattle.gc_solo.specs.Stands.{StandsFor, configuration_of}
 use Rattle.gc_cli.specs.declared.command.Request.{Request}
-use Rattle.gc_cli.specs.declared.command.Request.TheVariants.{Play}
+use Rattle.gc_cli.specs.declared.command.Request.TheVariants.{Drill, Make, Play}
 use Rattle.gc_cli.specs.declared.opts.Opts.{Opts}
 use Rattle.gc_cli.specs.declared.status.Left.{Left}
 use Rattle.gc_cli.specs.declared.status.Left.TheVariants.{Nothing, Solo}
+use Rattle.gc_cli.specs.Command.{request_of}
 use Rattle.gc_cli.specs.Text.{text_of}
 
 -- the source, whose rest was one and is another, was read to its end, and gave these bytes, no more than a
@@ -52,12 +55,12 @@ abbrev pub LeavesHeap : Left → Configuration → History → Type 0
 LeavesHeap Nothing configuration history = ⊥
 LeavesHeap (Solo kept) configuration history = IsHeapOf kept configuration history
 
--- behind a history stand these entries, the calls of these lines in their order and no collection, and the heap stands
--- for all of it
+-- behind a history stand these entries, the calls of these lines in their order with no more collections than the lines
+-- allow, and the heap stands for all of it
 pub record HasMade (kept : Kept) (history more : History) (lines : List Line) : Type 0 where
   pub stands : StandsFor kept (history ++ more)
   pub in_order : lines_in more ≡ lines
-  pub collections : length (filter is_collection more) ≡ 0
+  pub collections : length (filter is_collection more) ≤ sum_by (λ line. allowance_of line.call) lines
 
 -- behind a history stand the script's lines in the order of the text, with these replies, and then the End of each
 -- mutator, with no more collections than the lines allow; and the heap stands for all of it
@@ -67,25 +70,59 @@ pub record HasPlayed (kept : Kept) (script : Script) (replies : List Reply) (his
   pub replies_are : replies ≡ take (length script.lines) (replies_in more)
   pub collections : length (filter is_collection more) ≤ sum_by (λ line. allowance_of line.call) script.lines
 
--- the source was read to its end, its bytes are this script, it was played by this history, for which the heap that is
--- left stands, and the sink got the text of it: the replies by line number and, where the options ask for them, the
--- reports behind them
-pub record Plays (opts : Opts) (rest_old rest_new written_old written_new : Option (List ℕ)) (left : Left)
-    (bytes : List ℕ) (script : Script) (history : History) : Type 0 where
-  pub read : IsRead rest_old rest_new bytes
-  pub script_is : IsScript bytes script
+-- a script was played by this history, for which the heap that is left stands, and the sink got the text of it: the replies by
+-- line number, or their summary, and where the options ask for them the reports behind
+pub record Prints (opts : Opts) (written_old written_new : Option (List ℕ)) (left : Left) (script : Script) (history : History) :
+    Type 0 where
   pub played : IsHistoryOf opts script history
   pub heap : LeavesHeap left (heap_for opts script) history
   pub printed : Appends written_old written_new (text_of opts script history)
 
 -- as before, but the sink got only the first bytes of the text, maybe none
+pub record PrintsInPart (opts : Opts) (written_old written_new : Option (List ℕ)) (left : Left) (script : Script) (history : History) :
+    Type 0 where
+  pub played : IsHistoryOf opts script history
+  pub heap : LeavesHeap left (heap_for opts script) history
+  pub printed : AppendsPrefix written_old written_new (text_of opts script history)
+
+-- the source was read to its end, and its bytes are this script, which was played and printed
+pub record Plays (opts : Opts) (rest_old rest_new written_old written_new : Option (List ℕ)) (left : Left)
+    (bytes : List ℕ) (script : Script) (history : History) : Type 0 where
+  pub read : IsRead rest_old rest_new bytes
+  pub script_is : IsScript bytes script
+  pub prints : Prints opts written_old written_new left script history
+
+-- as before, but only in part
 pub record PlaysInPart (opts : Opts) (rest_old rest_new written_old written_new : Option (List ℕ)) (left : Left)
     (bytes : List ℕ) (script : Script) (history : History) : Type 0 where
   pub read : IsRead rest_old rest_new bytes
   pub script_is : IsScript bytes script
-  pub played : IsHistoryOf opts script history
-  pub heap : LeavesHeap left (heap_for opts script) history
-  pub printed : AppendsPrefix written_old written_new (text_of opts script history)
+  pub prints : PrintsInPart opts written_old written_new left script history
+
+-- the options by which a generated script is played: these, and a summary
+abbrev pub summarized : Opts → Opts
+summarized opts = record opts { summary = true }
+
+-- what was asked for was done: a script was read, played and printed; or a generated one was written, and no heap is left; or
+-- one was played, and its summary printed
+abbrev pub HasDone : Request → Option (List ℕ) → Option (List ℕ) → Option (List ℕ) → Option (List ℕ) → Left → Type 0
+HasDone (Play opts) rest_old rest_new written_old written_new left =
+    (bytes : List ℕ) × (script : Script) × (history : History)
+    × Plays opts rest_old rest_new written_old written_new left bytes script history
+HasDone (Make rounds) rest_old rest_new written_old written_new left =
+    Appends written_old written_new (written (generated rounds)) × (left ≡ Nothing)
+HasDone (Drill rounds opts) rest_old rest_new written_old written_new left =
+    (history : History) × Prints (summarized opts) written_old written_new left (generated rounds) history
+
+-- as before, but the sink got only the first bytes of the text, maybe none
+abbrev pub HasDoneInPart : Request → Option (List ℕ) → Option (List ℕ) → Option (List ℕ) → Option (List ℕ) → Left → Type 0
+HasDoneInPart (Play opts) rest_old rest_new written_old written_new left =
+    (bytes : List ℕ) × (script : Script) × (history : History)
+    × PlaysInPart opts rest_old rest_new written_old written_new left bytes script history
+HasDoneInPart (Make rounds) rest_old rest_new written_old written_new left =
+    AppendsPrefix written_old written_new (written (generated rounds)) × (left ≡ Nothing)
+HasDoneInPart (Drill rounds opts) rest_old rest_new written_old written_new left =
+    (history : History) × PrintsInPart (summarized opts) written_old written_new left (generated rounds) history
 
 -- the source was read to its end, and its bytes are no script: its first fault has this line and this cause
 pub record IsNoScript (old new : Option (List ℕ)) (bytes : List ℕ) (line cause : ℕ) : Type 0 where
@@ -118,6 +155,19 @@ pub record AreAllowed (opts : Opts) : Type 0 where
   pub some_pages : 1 ≤ opts.pages
   pub most_pages : opts.pages ≤ 128
 
+-- the rounds are within their limits
+abbrev pub AreAllowedRounds : ℕ → Type 0
+AreAllowedRounds rounds = (1 ≤ rounds) × (rounds ≤ 100000)
+
+-- the words ask for a script to be played, or they don't
+abbrev pub AsksScript : List (List ℕ) → Type 0
+AsksScript words = (opts : Opts) × (request_of words ≡ Some (Play opts))
+
+abbrev pub AsksNoScript : List (List ℕ) → Type 0
+AsksNoScript words = (opts : Opts) → request_of words ≢ Some (Play opts)
+
 -- what is asked for is within the limits
 abbrev pub IsAllowed : Request → Type 0
 IsAllowed (Play opts) = AreAllowed opts
+IsAllowed (Make rounds) = AreAllowedRounds rounds
+IsAllowed (Drill rounds opts) = AreAllowedRounds rounds × AreAllowed opts

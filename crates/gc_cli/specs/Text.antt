@@ -7,6 +7,7 @@ use Rattle.gc_model.specs.declared.reply.Reply.TheVariants.{Done, Full, Number, 
 use Rattle.gc_model.specs.History.{History, replies_by_line}
 use Rattle.gc_script.specs.Script.{Script, number_of_line}
 use Rattle.gc_solo.specs.Reports.{reports_of}
+use Rattle.gc_cli.specs.Summary.{summary_text}
 use Rattle.gc_cli.specs.declared.opts.Opts.{Opts}
 
 -- the text of a reply
@@ -54,10 +55,16 @@ reports_from number (report ∷ reports) = report_line number report ++ reports_
 abbrev pub reports_text : List RunReport → List ℕ
 reports_text reports = reports_from 1 reports
 
--- the printed text of replies and reports, by the options: the reports stand behind the replies, where they are asked for
-abbrev pub printed_text : Opts → Script → List Reply → List RunReport → List ℕ
-printed_text opts script replies reports = replies_text script replies ++ (if opts.reports then reports_text reports else [])
+-- the summary of the replies where it is asked for, and else the replies to a script's lines
+abbrev pub summary_or_replies : Opts → Script → List Reply → List ℕ
+summary_or_replies opts script replies = if opts.summary then summary_text replies else replies_text script replies
 
--- the printed text of a script and its history: the replies to its lines and the reports of the collections
+-- the printed text of replies and reports, by the options: the reports stand behind the replies or their summary, where they
+-- are asked for
+unfoldable pub printed_text : Opts → Script → List Reply → List RunReport → List ℕ
+printed_text opts script replies reports =
+    summary_or_replies opts script replies ++ (if opts.reports then reports_text reports else [])
+
+-- the printed text of a script and its history: the replies to its lines or their summary, and the reports of the collections
 abbrev pub text_of : Opts → Script → History → List ℕ
 text_of opts script history = printed_text opts script (replies_by_line history [] script.lines) (reports_of history)

@@ -9,18 +9,21 @@
 
 mod command;
 mod input;
+mod modes;
 mod opts;
 mod output;
 mod play;
 mod replies;
 mod status;
+mod summary;
 mod text;
 mod top;
 
 pub use command::Request;
+pub use modes::play_bytes;
 pub use opts::Opts;
 pub use output::write_reports;
 pub use play::play_lines;
 pub use replies::Replies;
 pub use status::{Left, Outcome, Status, write_status};
-pub use top::{moar_gc, play_bytes};
+pub use top::moar_gc;

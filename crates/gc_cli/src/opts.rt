@@ -1,7 +1,7 @@
 //! The options of a script that is played.
 
 /// What the options ask for: the words of a semispace half, 64 to 65,536; the pages of a mutator, 1 to 128;
-/// and whether the collections and a summary are reported. No option asks for a summary yet.
+/// whether the collections are reported; and whether a summary stands in place of the replies.
 #[derive(Clone, Copy, Debug, PartialEq, Eq)]
 pub struct Opts {
     pub nursery: u32,

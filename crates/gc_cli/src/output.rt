@@ -1,4 +1,4 @@
-//! Writing the replies, and behind them the reports where they are asked for, one piece a line.
+//! Writing the replies or their summary, and behind them the reports where they are asked for, one piece a line.
 
 ghost use Rattle.std.specs.Prelude.{◌≡◌, ◌+◌, ◌<◌, ◌≤◌, length, slice_get, Some};
 ghost use Rattle.gc_io.specs.Faults.{HasRisen};
@@ -6,16 +6,20 @@ ghost use Rattle.gc_io.specs.Streams.{Appends, AppendsPrefix};
 ghost use Rattle.gc_model.specs.declared.entry.RunReport.{RunReport as Report};
 ghost use Rattle.gc_model.specs.declared.reply.Reply.{Reply as GraphReply};
 ghost use Rattle.gc_script.specs.Script.{number_of_line};
-ghost use Rattle.gc_cli.specs.Text.{printed_text, replies_text, reply_line, report_line, reports_text};
+ghost use Rattle.gc_cli.specs.Summary.{summary_text};
+ghost use Rattle.gc_cli.specs.Text.{printed_text, replies_text, reply_line, report_line, reports_text, summary_or_replies};
 
 use crate::opts::Opts;
+use crate::summary::summary_line;
 use crate::text::{reply_line, report_line};
 use gc_io::{Put, Sink};
 use gc_model::{Reply, RunReport};
 use gc_script::Script;
 
-/// Writes the replies to the lines of a script and, where the options ask for them, the reports of the collections
-/// behind them, one piece a line, and stops at the first fault. It takes no memory.
+/// Writes the replies to the lines of a script, or their summary where the options ask for it, and, where the
+/// options ask for them, the reports of the collections behind them, one piece a line, and stops at the first fault.
+/// It takes no memory.
+#[tactic(auto, unfolding(crate::specs::Text::printed_text))]
 pub(crate) fn write_text<K: Sink>(
     opts: &Opts,
     script: &Script,
@@ -32,10 +36,47 @@ pub(crate) fn write_text<K: Sink>(
         (printed_text opts.now script.now replies.now reports.now) }
     ensures never_falls { K.faults out.old ≤ K.faults out.new }
 {
-    match write_replies(script, replies, out) {
+    match write_summary_or_replies(opts, script, replies, out) {
         Put::All if opts.reports => write_reports(reports, out),
         put => put,
     }
+}
+
+/// Writes the summary of the replies where the options ask for it, or the replies to the lines of a script.
+fn write_summary_or_replies<K: Sink>(
+    opts: &Opts,
+    script: &Script,
+    replies: &[Reply],
+    out: &mut K,
+) -> Put
+    requires { length replies.now ≡ length script.now.lines }
+    ensures all { result ≡ Put.All
+        → Appends (K.written out.old) (K.written out.new) (summary_or_replies opts.now script.now replies.now) }
+    ensures quiet { result ≡ Put.All → K.faults out.new ≡ K.faults out.old }
+    ensures failed { result ≡ Put.Failed → HasRisen (K.faults out.old) (K.faults out.new) }
+    ensures part { result ≡ Put.Failed
+        → AppendsPrefix (K.written out.old) (K.written out.new) (summary_or_replies opts.now script.now replies.now) }
+    ensures never_falls { K.faults out.old ≤ K.faults out.new }
+{
+    if opts.summary {
+        write_summary(replies, out)
+    } else {
+        write_replies(script, replies, out)
+    }
+}
+
+/// Writes the summary of the replies as one piece. It takes no memory.
+fn write_summary<K: Sink>(replies: &[Reply], out: &mut K) -> Put
+    ensures all { result ≡ Put.All
+        → Appends (K.written out.old) (K.written out.new) (summary_text replies.now) }
+    ensures quiet { result ≡ Put.All → K.faults out.new ≡ K.faults out.old }
+    ensures failed { result ≡ Put.Failed → HasRisen (K.faults out.old) (K.faults out.new) }
+    ensures part { result ≡ Put.Failed
+        → AppendsPrefix (K.written out.old) (K.written out.new) (summary_text replies.now) }
+    ensures never_falls { K.faults out.old ≤ K.faults out.new }
+{
+    let line = summary_line(replies);
+    out.put(line.as_bytes())
 }
 
 /// Writes the replies to the lines of a script, one piece a line, and stops at the first fault. It takes

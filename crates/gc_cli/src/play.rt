@@ -1,9 +1,9 @@
 //! Plays a script: each line's call in the order of the text, and then the End of each mutator.
-ghost use Rattle.std.specs.Prelude.{◌≡◌, ◌+◌, ◌<◌, ◌≤◌, ◌++◌, ◌∷◌, [], length, sum_by, take, IfOk, slice_get, Some};
+ghost use Rattle.std.specs.Prelude.{◌≡◌, ◌+◌, ◌<◌, ◌≤◌, [], length, sum_by, take, IfOk, slice_get, Some};
 ghost use Rattle.gc_model.specs.History.{History, allowance_of, ends_of, replies_by_line};
 ghost use Rattle.gc_model.specs.declared.call.Line.{Line as CallLine};
-ghost use Rattle.gc_model.specs.declared.entry.Entry.TheVariants.{Made};
-ghost use Rattle.gc_solo.specs.Stands.{StandsFor, Stays};
+ghost use Rattle.gc_solo.specs.Kept.{IsSameHeap};
+ghost use Rattle.gc_solo.specs.Stands.{HasCalled, StandsFor};
 ghost use Rattle.gc_cli.specs.Played.{AreAllowed, HasMade, HasPlayed, IsHeapOf, IsHistoryOf, heap_for};
 
 use crate::opts::Opts;
@@ -36,7 +36,7 @@ pub(crate) fn play(alloc: Global, opts: &Opts, script: &Script) -> Result<Played
     Ok(Played { solo, replies })
 }
 
-/// How many collections the lines of a script may bring: two for each New.
+/// How many collections the lines of a script may bring: two for each New, and one for each Collect.
 fn allowance(script: &Script) -> u32
     ensures { result ≡ sum_by (λ line. allowance_of line.call) script.now.lines }
 {
@@ -72,7 +72,7 @@ pub fn play_lines(solo: &mut Solo, script: &Script, replies: &mut Replies)
     requires room { length script.now.lines ≤ replies.old.room }
     ensures played { (history : History) → StandsFor solo.old history
         → (more : History) × HasPlayed solo.new script.now replies.new.list history more }
-    ensures stays { Stays solo.old solo.new }
+    ensures same { IsSameHeap solo.old solo.new }
     ensures answered { length replies.new.list ≡ length script.now.lines }
 {
     for index in 0..script.count() {
@@ -86,11 +86,13 @@ fn play_line(solo: &mut Solo, script: &Script, index: usize) -> Reply
     requires types { solo.old.types ≡ script.now.preamble.types }
     requires mutators { solo.old.layout.mutators ≡ script.now.preamble.mutators }
     requires there { index < length script.now.lines }
-    requires reports { sum_by (λ line. allowance_of line.call) script.now.lines ≤ solo.old.room }
+    requires reports { (line : CallLine) → slice_get script.now.lines index ≡ Some line → allowance_of line.call ≤ solo.old.room }
     ensures stands { (history : History) (line : CallLine) → StandsFor solo.old history
         → slice_get script.now.lines index ≡ Some line
-        → StandsFor solo.new (history ++ Made line.mutator line.call result ∷ []) }
-    ensures stays { Stays solo.old solo.new }
+        → HasCalled solo.old solo.new history line.mutator line.call result }
+    ensures same { IsSameHeap solo.old solo.new }
+    ensures room { (line : CallLine) → slice_get script.now.lines index ≡ Some line
+        → solo.old.room ≤ solo.new.room + allowance_of line.call }
 {
     // Taken apart, since the prover has to be shown the type of the call here.
     let Line { mutator, call } = script.line(index).unwrap();
@@ -102,7 +104,7 @@ fn end_all(solo: &mut Solo, mutators: u8)
     requires mutators { solo.old.layout.mutators ≡ mutators }
     ensures ended { (history : History) → StandsFor solo.old history
         → (more : History) × HasMade solo.new history more (ends_of mutators) }
-    ensures stays { Stays solo.old solo.new }
+    ensures same { IsSameHeap solo.old solo.new }
 {
     for mutator in 0..mutators {
         solo.call(mutator, &Call::End);

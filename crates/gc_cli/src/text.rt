@@ -132,8 +132,8 @@ fn cause_text(cause: u8) -> &'static str
 }
 
 /// A number in decimal, behind what stands there.
-fn push_number(line: &mut TextLine, number: u64)
-    requires { length line.old.bytes ≤ 76 }
+pub(crate) fn push_number<const CAP: usize>(line: &mut ArrayString<CAP>, number: u64)
+    requires { length line.old.bytes + 20 ≤ CAP }
     ensures text { line.new.bytes ≡ line.old.bytes ++ decimal number }
     ensures short { length (decimal number) ≤ 20 }
 {
@@ -142,8 +142,8 @@ fn push_number(line: &mut TextLine, number: u64)
 }
 
 /// A text, behind what stands there.
-fn push(line: &mut TextLine, text: &str)
-    requires { length line.old.bytes + length text.now ≤ 96 }
+pub(crate) fn push<const CAP: usize>(line: &mut ArrayString<CAP>, text: &str)
+    requires { length line.old.bytes + length text.now ≤ CAP }
     ensures { line.new.bytes ≡ line.old.bytes ++ text.now }
 {
     let _ = line.try_push_str(text);

@@ -1,13 +1,26 @@
-use Rattle.std.proofs.Common.{◌≡◌, ◌∙◌, ℕ, ◌≤◌, ◌++◌, ◌∷◌, [], List, length, length-append, take, subst, arith}
+use Rattle.std.proofs.Common.{◌≡◌, ◌∙◌, ℕ, suc, sum_by, ap, ◌≤◌, ◌++◌, ◌∷◌, [], List, length, length-append, take, subst, arith}
 use Rattle.std.proofs.Math.Numerals.{add-one}
 use Rattle.std.proofs.lemmas.List.{take_all}
+use Rattle.std.proofs.lemmas.List.Sums.{sum_by-take-le, sum_by_push}
 use Rattle.gc_model.specs.declared.call.Line.{Line}
-use Rattle.gc_model.specs.declared.entry.Entry.TheVariants.{Made}
-use Rattle.gc_model.specs.History.{ends_of}
+use Rattle.gc_model.specs.History.{allowance_of, ends_of}
 use Rattle.gc_cli.specs.Played.{HasMade}
 use Rattle.gc_cli.proofs.Lists.{slice_get-below, take-at}
-use Rattle.gc_cli.proofs.PlayLemmas.{made-next, played-ends, replies-next}
+use Rattle.gc_cli.proofs.PlayLemmas.{entries_of, made-next, played-ends, replies-next}
 use Rattle.gc_cli.proofs.play.play_lines.Goals as goal
+
+-- what a line may bring
+abbrev weight : Line → ℕ
+weight line = allowance_of line.call
+
+-- there are report places for what the line may bring: as many as all lines may, less those of the lines so far
+pub play_line-requires-clause-reports : goal.play_line-requires-clause-reports
+play_line-requires-clause-reports c line is =
+    let lines = c.args.script.now.lines in
+    let index = c.loop-index.index in
+    let more = sum_by_push weight (take index lines) line in
+    let part : sum_by weight (take (suc index) lines) ≤ sum_by weight lines = sum_by-take-le weight lines (suc index) in
+    omega (arith, more, ap (sum_by weight) (take-at lines index line is), part, c.loop-index.invariant.places, c.requires.reports)
 
 -- one more line was played
 pub loop-index-preserved : goal.loop-index-preserved
@@ -17,21 +30,21 @@ loop-index-preserved c =
     let index = c.loop-index.index in
     let next = slice_get-below lines index (omega (arith, c.loop-index-test.true, c.count-index-end.ensures.count)) in
     let line : Line = next.0 in
-    let after = c.play_line.ensures.stays in
+    let after = c.play_line.ensures.same in
     record {
       played = λ history stands.
-          let before = invariant.played history stands in (
-            before.0 ++ Made line.mutator line.call c.play_line.result ∷ [],
+          let before = invariant.played history stands in
+          let called = c.play_line.ensures.stands (history ++ before.0) line before.1.stands next.1 in (
+            before.0 ++ entries_of called.runs line c.play_line.result,
             rw (add-one index, take-at lines index line next.1) (made-next c.loop-index.solo c.play_line.new.solo history before.0
-                (take index lines) line c.play_line.result before.1 (λ each stood. c.play_line.ensures.stands each line stood next.1)),
-            rw c.push.ensures (replies-next before.0 line c.play_line.result c.loop-index.replies.list before.2),
+                (take index lines) line c.play_line.result before.1 called),
+            rw c.push.ensures (replies-next before.0 line c.play_line.result called.runs c.loop-index.replies.list before.2),
           );
-      stays = record {
-        types = after.types ∙ invariant.stays.types;
-        layout = after.layout ∙ invariant.stays.layout;
-        reports = after.reports ∙ invariant.stays.reports;
-        room = after.room ∙ invariant.stays.room;
-      };
+      same = record { types = after.types ∙ invariant.same.types; layout = after.layout ∙ invariant.same.layout };
+      places =
+          let more = sum_by_push weight (take index lines) line in
+          rw (add-one index, take-at lines index line next.1)
+          (omega (arith, more, invariant.places, c.play_line.ensures.room line next.1));
       answered =
           let more = length-append c.loop-index.replies.list (c.play_line.result ∷ []) in
           rw c.push.ensures (omega (arith, more, invariant.answered));

@@ -1,14 +1,69 @@
-use Rattle.gc_cli.proofs.AllowedLemmas.{request-allowed}
+use Rattle.std.proofs.Common.{◌≡◌, Some, None, ap, inr, sym, ◌∙◌}
+use Rattle.gc_cli.specs.declared.status.Status.{Status}
+use Rattle.gc_cli.specs.declared.status.Status.TheVariants.{Done, NoMemory, Usage, WriteFault}
+use Rattle.gc_cli.specs.declared.status.Outcome.{Outcome}
+use Rattle.gc_cli.proofs.AllowedLemmas.{request_of-limits}
 use Rattle.gc_cli.proofs.top.moar_gc.Goals as goal
-use Rattle.gc_cli.proofs.top.moar_gc.Goals.{in-Some-Play, in-None}
+use Rattle.gc_cli.proofs.top.moar_gc.Goals.{in-Ok-Some-Play, in-Ok-Some-Make, in-Ok-Some-Drill, in-Ok-None, in-Err}
 
 pub returns-clause-allowed : goal.returns-clause-allowed
-returns-clause-allowed g c = request-allowed _
+returns-clause-allowed g c = request_of-limits _
+
+-- what the mode did is what was asked for
+pub returns-clause-done : goal.returns-clause-done
+returns-clause-done g c =
+    elim c.match-request_of.branch [
+      | in-Ok-Some-Play w ↦
+          let asked = sym w.in-Ok-Some-Play.ensures.value ∙ w.in-Ok-Some-Play.field-0-is ∙ ap Some w.in-Ok-Some-Play.field-0-0-is in
+          rw (asked, w.outcome-is, w.src-is, w.out-is) w.play_bytes-outcome.ensures.done
+      | in-Ok-Some-Make w ↦
+          let asked = sym w.in-Ok-Some-Make.ensures.value ∙ w.in-Ok-Some-Make.field-0-is ∙ ap Some w.in-Ok-Some-Make.field-0-0-is in
+          rw (asked, w.outcome-is, w.out-is) (λ done. (w.make-outcome.ensures.done done, w.make-outcome.ensures.left))
+      | in-Ok-Some-Drill w ↦
+          let asked = sym w.in-Ok-Some-Drill.ensures.value ∙ w.in-Ok-Some-Drill.field-0-is ∙ ap Some w.in-Ok-Some-Drill.field-0-0-is in
+          rw (asked, w.outcome-is, w.out-is) w.drill-outcome.ensures.done
+      | in-Ok-None w ↦ λ done.
+          let is : Usage ≡ Done = sym (ap (λ (outcome : Outcome). outcome.status) (w.outcome-is ∙ w.nothing_left-outcome.ensures)) ∙ done in
+          absurd (let e : ⊥ = cc in e)
+      | in-Err w ↦ λ done.
+          let is : NoMemory ≡ Done = sym (ap (λ (outcome : Outcome). outcome.status) (w.outcome-is ∙ w.nothing_left-outcome-in-Err.ensures)) ∙ done in
+          absurd (let e : ⊥ = cc in e)
+    ]
+
+-- and in part where the sink failed
+pub returns-clause-write_part : goal.returns-clause-write_part
+returns-clause-write_part g c =
+    elim c.match-request_of.branch [
+      | in-Ok-Some-Play w ↦
+          let asked = sym w.in-Ok-Some-Play.ensures.value ∙ w.in-Ok-Some-Play.field-0-is ∙ ap Some w.in-Ok-Some-Play.field-0-0-is in
+          rw (asked, w.outcome-is, w.src-is, w.out-is) w.play_bytes-outcome.ensures.write_part
+      | in-Ok-Some-Make w ↦
+          let asked = sym w.in-Ok-Some-Make.ensures.value ∙ w.in-Ok-Some-Make.field-0-is ∙ ap Some w.in-Ok-Some-Make.field-0-0-is in
+          rw (asked, w.outcome-is, w.out-is) (λ fault. (w.make-outcome.ensures.write_part fault, w.make-outcome.ensures.left))
+      | in-Ok-Some-Drill w ↦
+          let asked = sym w.in-Ok-Some-Drill.ensures.value ∙ w.in-Ok-Some-Drill.field-0-is ∙ ap Some w.in-Ok-Some-Drill.field-0-0-is in
+          rw (asked, w.outcome-is, w.out-is) w.drill-outcome.ensures.write_part
+      | in-Ok-None w ↦ λ fault.
+          let is : Usage ≡ WriteFault = sym (ap (λ (outcome : Outcome). outcome.status) (w.outcome-is ∙ w.nothing_left-outcome.ensures)) ∙ fault in
+          absurd (let e : ⊥ = cc in e)
+      | in-Err w ↦ λ fault.
+          let is : NoMemory ≡ WriteFault = sym (ap (λ (outcome : Outcome). outcome.status) (w.outcome-is ∙ w.nothing_left-outcome-in-Err.ensures)) ∙ fault in
+          absurd (let e : ⊥ = cc in e)
+    ]
 
 -- the fault that playing tells is the fault that the top call tells
 pub returns-clause-bad_is_told : goal.returns-clause-bad_is_told
 returns-clause-bad_is_told g c opts bytes line cause asked tells few fault =
     elim c.match-request_of.branch [
-      | in-Some-Play w ↦ rw w.outcome-is (w.play_bytes-outcome.ensures.bad_is_told bytes line cause (rw w.src-is at tells) few fault)
-      | in-None w ↦ absurd (let e : ⊥ = cc in e)
+      | in-Ok-Some-Play w ↦ rw w.outcome-is (w.play_bytes-outcome.ensures.bad_is_told bytes line cause (rw w.src-is at tells) few fault)
+      | in-Ok-Some-Make w ↦
+          let is = sym w.in-Ok-Some-Make.ensures.value ∙ w.in-Ok-Some-Make.field-0-is ∙ ap Some w.in-Ok-Some-Make.field-0-0-is in
+          absurd (let e : ⊥ = cc in e)
+      | in-Ok-Some-Drill w ↦
+          let is = sym w.in-Ok-Some-Drill.ensures.value ∙ w.in-Ok-Some-Drill.field-0-is ∙ ap Some w.in-Ok-Some-Drill.field-0-0-is in
+          absurd (let e : ⊥ = cc in e)
+      | in-Ok-None w ↦
+          let is = sym w.in-Ok-None.ensures.value ∙ w.in-Ok-None.field-0-is in
+          absurd (let e : ⊥ = cc in e)
+      | in-Err w ↦ inr (ap (λ (outcome : Outcome). outcome.status) (w.outcome-is ∙ w.nothing_left-outcome-in-Err.ensures))
     ]

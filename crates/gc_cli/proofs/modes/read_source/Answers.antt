@@ -1,6 +1,6 @@
 use Rattle.std.proofs.Common.{◌≡◌, Err}
 use Rattle.gc_script.specs.declared.fault.ScriptFault.TheVariants.{Bad}
-use Rattle.gc_cli.proofs.top.read_source.Goals as goal
+use Rattle.gc_cli.proofs.modes.read_source.Goals as goal
 
 pub returns-in-Err-Bad-clause-fault : goal.returns-in-Err-Bad-clause-fault
 returns-in-Err-Bad-clause-fault g c =

@@ -1,0 +1,35 @@
+use Rattle.std.proofs.Common.{ℕ, List, ap₂, refl, ◌∙◌, subst}
+use Rattle.gc_io.specs.Streams.{Appends, AppendsPrefix}
+use Rattle.gc_cli.specs.Text.{printed_text}
+use Rattle.gc_cli.proofs.modes.play_script.Goals as goal
+
+-- the text is that of the replies and the reports of the history by which the script was played
+pub returns-in-All-clause-done : goal.returns-in-All-clause-done
+returns-in-All-clause-done g c done =
+    let (history, is, heap, replies) = c.in-Ok.ensures.played in
+    let reports = c.reports.ensures.reports ∙ heap.stands.reports in
+    let same = ap₂ (printed_text c.args.opts.now c.args.script.now) (c.as_slice.ensures ∙ replies) reports in (
+      history,
+      record {
+        played = is;
+        heap = rw c.heap_left.ensures heap;
+        printed =
+            subst (λ (text : List ℕ). Appends (g.K.Sink.written c.args.out.now) (g.K.Sink.written c.write_text.new.out) text) same
+            (c.in-All.ensures.all refl);
+      },
+    )
+
+pub returns-clause-write_part : goal.returns-clause-write_part
+returns-clause-write_part g c fault =
+    let (history, is, heap, replies) = c.in-Ok.ensures.played in
+    let reports = c.reports.ensures.reports ∙ heap.stands.reports in
+    let same = ap₂ (printed_text c.args.opts.now c.args.script.now) (c.as_slice.ensures ∙ replies) reports in (
+      history,
+      record {
+        played = is;
+        heap = rw c.heap_left-in-Failed.ensures heap;
+        printed =
+            subst (λ (text : List ℕ). AppendsPrefix (g.K.Sink.written c.args.out.now) (g.K.Sink.written c.write_text.new.out) text) same
+            (c.in-Failed.ensures.part refl);
+      },
+    )
