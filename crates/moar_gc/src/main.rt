@@ -15,7 +15,7 @@ ghost use Rattle.gc_io.specs.Faults.{HasRisen};
 ghost use Rattle.gc_io.specs.Streams.{Appends};
 ghost use Rattle.gc_cli.specs.Causes.{IsOrNoMemory};
 ghost use Rattle.gc_cli.specs.Command.{request_of, status_line};
-ghost use Rattle.gc_cli.specs.Played.{GivesScript, IsTooLong, IsNoScript, BreaksOff};
+ghost use Rattle.gc_cli.specs.Played.{AsksNoScript, AsksScript, GivesScript, IsTooLong, IsNoScript, BreaksOff};
 
 use gc_cli::{Status, moar_gc, write_status};
 use gc_io::{OpenGate, Put, Sink, Source, StdSink, StdSource};
@@ -61,11 +61,13 @@ fn run<S: Source, W: Write + Drop, E: Sink>(
     ensures usage { IfOk words (λ words. result ≡ Status.Usage → request_of (map string_bytes words.items) ≡ None) }
     ensures usage_is_told { IfOk words (λ words. request_of (map string_bytes words.items) ≡ None
         → IsOrNoMemory Status.Usage result) }
-    ensures usage_reads_nothing { result ≡ Status.Usage → src.new ≡ src.old }
+    ensures reads_nothing { IfOk words (λ words. AsksNoScript (map string_bytes words.items) → src.new ≡ src.old) }
 
     // What the top call says of the source, whatever source it is.
-    ensures done { result ≡ Status.Done → GivesScript (S.rest src.old) (S.rest src.new) }
-    ensures write_fault { result ≡ Status.WriteFault → GivesScript (S.rest src.old) (S.rest src.new) }
+    ensures done { IfOk words (λ words. AsksScript (map string_bytes words.items) → result ≡ Status.Done
+        → GivesScript (S.rest src.old) (S.rest src.new)) }
+    ensures write_fault { IfOk words (λ words. AsksScript (map string_bytes words.items) → result ≡ Status.WriteFault
+        → GivesScript (S.rest src.old) (S.rest src.new)) }
     ensures read_fault { result ≡ Status.ReadFault
         → ((bytes : List ℕ) × BreaksOff (S.rest src.old) (S.rest src.new) (S.faults src.old) (S.faults src.new) bytes) }
     ensures long { result ≡ Status.Long
@@ -108,10 +110,11 @@ fn play_and_flush<S: Source, W: Write + Drop, E: Sink>(
     err: &mut E,
 ) -> Status
     ensures usage { result ≡ Status.Usage → request_of (map string_bytes words.now) ≡ None }
-    ensures usage_is_told { request_of (map string_bytes words.now) ≡ None → result ≡ Status.Usage }
-    ensures usage_reads_nothing { result ≡ Status.Usage → src.new ≡ src.old }
-    ensures done { result ≡ Status.Done → GivesScript (S.rest src.old) (S.rest src.new) }
-    ensures write_fault { result ≡ Status.WriteFault → GivesScript (S.rest src.old) (S.rest src.new) }
+    ensures usage_is_told { request_of (map string_bytes words.now) ≡ None → IsOrNoMemory Status.Usage result }
+    ensures reads_nothing { AsksNoScript (map string_bytes words.now) → src.new ≡ src.old }
+    ensures done { AsksScript (map string_bytes words.now) → result ≡ Status.Done → GivesScript (S.rest src.old) (S.rest src.new) }
+    ensures write_fault { AsksScript (map string_bytes words.now) → result ≡ Status.WriteFault
+        → GivesScript (S.rest src.old) (S.rest src.new) }
     ensures write_fault_counted { result ≡ Status.WriteFault → HasRisen out.old.faults out.new.faults }
     ensures read_fault { result ≡ Status.ReadFault
         → ((bytes : List ℕ) × BreaksOff (S.rest src.old) (S.rest src.new) (S.faults src.old) (S.faults src.new) bytes) }
@@ -128,8 +131,11 @@ fn play_and_flush<S: Source, W: Write + Drop, E: Sink>(
         → Appends (E.written err.old) (E.written err.new) (status_line result) }
 {
     let status = moar_gc(rt, rt.alloc(), words, src, out, err, &OpenGate).status;
-    if status == Status::Done && out.finish() == Put::Failed {
-        return refused(Status::WriteFault, err);
+    let Status::Done = status else {
+        return status;
+    };
+    match out.finish() {
+        Put::All => Status::Done,
+        Put::Failed => refused(Status::WriteFault, err),
     }
-    status
 }
