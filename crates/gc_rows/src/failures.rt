@@ -5,9 +5,7 @@
 ghost use Rattle.std.specs.Prelude.{◌<◌};
 
 use crate::doubles::{AskedSource, PieceSink};
-use crate::graph::graph_text;
 use crate::row::ONE_BOX;
-use crate::scripts::{EIGHT, ONE, TWO, drawn_script};
 use gc_cli::{Status, moar_gc, write_reports, write_status};
 use gc_io::{MemorySink, MemorySource, OpenGate, Put};
 use gc_model::RunReport;
@@ -58,6 +56,22 @@ const FIVE_REPLIES: &str = "4 nil base\n\
      6 done\n\
      7 7\n\
      8 no 7\n";
+
+/// Calls of a mutator whose register 0 names a node, and what they reply, each time again. All replies but `full` are here.
+const ROUND: [(&str, &str); 12] = [
+    ("ask r1 0", "nil base"),
+    ("set r0 0 7", "done"),
+    ("ask r0 0", "7"),
+    ("swap r0 0 7 18446744073709551615", "yes"),
+    ("swap r0 0 7 8", "no 18446744073709551615"),
+    ("get r2 r0 0", "nil"),
+    ("get r2 r0 1", "range"),
+    ("same r0 r1", "no"),
+    ("unblock", "not blocked"),
+    ("block", "done"),
+    ("ask r0 0", "blocked"),
+    ("unblock", "done"),
+];
 
 /// What collections report.
 const REPORTS: [RunReport; 10] = [
@@ -364,16 +378,29 @@ fn each_status_has_its_line_as_one_piece(rt: HostRuntime) -> Result<(), Fail> {
     Ok(())
 }
 
+/// A script of so many rounds of calls, and what it prints.
+fn rounds(alloc: Global, count: u32) -> Result<(String, String), AllocError> {
+    let mut script = String::new(alloc);
+    let mut output = String::new(alloc);
+    script.push_str("moar-gc 1\nmutators 1\ntype node 1 1\n0 new r0 node\n")?;
+    output.push_str("4 done\n")?;
+    let mut number = 5u32;
+    for _ in 0..count {
+        for (call, reply) in ROUND {
+            writeln!(script, "0 {call}")?;
+            writeln!(output, "{number} {reply}")?;
+            number = number.saturating_add(1);
+        }
+    }
+    Ok((script, output))
+}
+
 #[test]
 fn each_reply_of_a_long_script_is_one_piece(rt: HostRuntime) -> Result<(), Fail> {
-    let alloc = rt.alloc();
-    let drawn = drawn_script(alloc, 4, 500)?;
-    for script in [ONE, TWO, EIGHT, drawn.as_str()] {
-        let text = graph_text(alloc, script.as_bytes(), 4096)?;
-        let pieces = pieces_until(alloc, text.as_str(), 0)?;
-        let ended = Trial::plays(script).run(&rt)?;
-        ended.check(&rt, Status::Done, 2, pieces.as_str(), "");
-    }
+    let (script, output) = rounds(rt.alloc(), 100)?;
+    let pieces = pieces_until(rt.alloc(), output.as_str(), 0)?;
+    let ended = Trial::plays(script.as_str()).run(&rt)?;
+    ended.check(&rt, Status::Done, 2, pieces.as_str(), "");
     Ok(())
 }
 

@@ -4,8 +4,7 @@
 //! A row is data: a name that says what it shows, the script, the words, the output, the line on standard
 //! error and the status, and where wanted the calls of the source and of the output that fail. All values
 //! are worked out by hand from the rules. A row is added by adding its data to the table in the tests. In
-//! memory all bytes are told, so the theorem of the top call speaks of them plainly. Beside the rows stands
-//! the plain graph: scripts are played on it too, and it is to give the replies that the program prints.
+//! memory all bytes are told, so the theorem of the top call speaks of them plainly.
 #![tactic(auto)]
 
 mod memory;
@@ -13,11 +12,19 @@ mod memory;
 pub use memory::run_in_memory;
 
 #[cfg(test)]
+mod built;
+#[cfg(test)]
+mod collections;
+#[cfg(test)]
+mod commands;
+#[cfg(test)]
 mod doubles;
 #[cfg(test)]
 mod failures;
 #[cfg(test)]
-mod graph;
+mod full;
+#[cfg(test)]
+mod naming;
 #[cfg(test)]
 mod options;
 #[cfg(test)]
@@ -25,8 +32,8 @@ mod refusals;
 #[cfg(test)]
 mod row;
 #[cfg(test)]
-mod scripts;
-#[cfg(test)]
 mod sizes;
+#[cfg(test)]
+mod steps;
 #[cfg(test)]
 mod tests;

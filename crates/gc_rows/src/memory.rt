@@ -1,16 +1,18 @@
 //! The theorem of the top call where all bytes are told: a source and sinks in memory.
 
-ghost use Rattle.std.specs.Prelude.{◌≡◌, ◌≢◌, ℕ, ◌+◌, ◌<◌, ◌≤◌, ◌++◌, ◌↔◌, List, [], length, take, None, Some, map, string_bytes};
+ghost use Rattle.std.specs.Prelude.{◌≡◌, ◌≢◌, ℕ, ◌+◌, ◌<◌, ◌≤◌, ◌++◌, List, [], length, take, None, Some, map, string_bytes, IfSome};
 ghost use Rattle.gc_io.specs.Faults.{HasRisen};
 ghost use Rattle.gc_model.specs.History.{History};
+ghost use Rattle.gc_script.specs.Generated.{generated};
 ghost use Rattle.gc_script.specs.Grammar.{IsScript, IsFirstFault};
 ghost use Rattle.gc_script.specs.Script.{Script};
 ghost use Rattle.gc_script.specs.Text.{most_bytes};
+ghost use Rattle.gc_script.specs.Written.{written};
 ghost use Rattle.gc_cli.specs.Causes.{IsOrNoMemory};
 ghost use Rattle.gc_cli.specs.Command.{request_of, status_line};
-ghost use Rattle.gc_cli.specs.Played.{AreAllowed, IsHistoryOf, LeavesHeap, heap_for};
+ghost use Rattle.gc_cli.specs.Played.{AsksNoScript, IsAllowed, IsHistoryOf, LeavesHeap, heap_for, summarized};
 ghost use Rattle.gc_cli.specs.Text.{text_of};
-ghost use Rattle.gc_cli.specs.declared.command.Request.TheVariants.{Play};
+ghost use Rattle.gc_cli.specs.declared.command.Request.TheVariants.{Drill, Make, Play};
 ghost use Rattle.gc_cli.specs.declared.opts.Opts.{Opts};
 
 use gc_cli::{Left, Outcome, Status, moar_gc};
@@ -26,22 +28,34 @@ pub fn run_in_memory<R>(
     out: &mut MemorySink,
     err: &mut MemorySink,
 ) -> Outcome
-    // Where it is done, the words ask for a script to be played by some options, all that the source had is a
-    // script, and the output has got the text of a legal history that fits it, by these options. The heap that is
-    // left stands for that history.
-    ensures done { result.status ≡ Status.Done
-        → ((opts : Opts) × (script : Script) × (history : History)
-        × (request_of (map string_bytes words.now) ≡ Some (Play opts)) × IsScript src.old.rest script
+    // Where it is done and the words ask for a script to be played, all that the source had is a script, and the output
+    // has got the text of a legal history that fits it, by these options. The heap that is left stands for that history.
+    ensures played { (opts : Opts) → request_of (map string_bytes words.now) ≡ Some (Play opts) → result.status ≡ Status.Done
+        → ((script : Script) × (history : History) × IsScript src.old.rest script
         × IsHistoryOf opts script history × LeavesHeap result.left (heap_for opts script) history
         × (out.new.written ≡ out.old.written ++ text_of opts script history)) }
-    ensures done_reads_all { result.status ≡ Status.Done → src.new.rest ≡ [] }
+    ensures played_reads_all { (opts : Opts) → request_of (map string_bytes words.now) ≡ Some (Play opts)
+        → result.status ≡ Status.Done → src.new.rest ≡ [] }
 
-    // The words ask for no options beyond their limits.
-    ensures allowed { (opts : Opts) → request_of (map string_bytes words.now) ≡ Some (Play opts) → AreAllowed opts }
+    // Where they ask for a generated script, it was written, or it was played and its summary written.
+    ensures made { (rounds : ℕ) → request_of (map string_bytes words.now) ≡ Some (Make rounds) → result.status ≡ Status.Done
+        → out.new.written ≡ out.old.written ++ written (generated rounds) }
+    ensures make_leaves_nothing { (rounds : ℕ) → request_of (map string_bytes words.now) ≡ Some (Make rounds)
+        → result.left ≡ Left.Nothing }
+    ensures drilled { (rounds : ℕ) (opts : Opts) → request_of (map string_bytes words.now) ≡ Some (Drill rounds opts)
+        → result.status ≡ Status.Done
+        → ((history : History) × IsHistoryOf (summarized opts) (generated rounds) history
+        × LeavesHeap result.left (heap_for opts (generated rounds)) history
+        × (out.new.written ≡ out.old.written ++ text_of (summarized opts) (generated rounds) history)) }
 
-    // Usage is answered exactly where the words are no command line.
-    ensures usage { (result.status ≡ Status.Usage) ↔ (request_of (map string_bytes words.now) ≡ None) }
-    ensures usage_reads_nothing { result.status ≡ Status.Usage → src.new ≡ src.old }
+    // The words ask for nothing beyond the limits.
+    ensures allowed { IfSome (request_of (map string_bytes words.now)) IsAllowed }
+
+    // Usage is answered exactly where the words are no command line, want of memory apart; and the source is read only
+    // where a script is asked for.
+    ensures usage { result.status ≡ Status.Usage → request_of (map string_bytes words.now) ≡ None }
+    ensures usage_is_told { request_of (map string_bytes words.now) ≡ None → IsOrNoMemory Status.Usage result.status }
+    ensures reads_nothing { AsksNoScript (map string_bytes words.now) → src.new ≡ src.old }
 
     // A script is refused only where all that the source had is none, and with its first fault.
     ensures bad { (line cause : ℕ) → result.status ≡ Status.Bad line cause
@@ -66,18 +80,31 @@ pub fn run_in_memory<R>(
 
     // So is a fault of the output, which has then got a first part of the text.
     ensures write_fault { result.status ≡ Status.WriteFault → HasRisen out.old.faults out.new.faults }
-    ensures write_part { result.status ≡ Status.WriteFault
-        → ((opts : Opts) × (script : Script) × (history : History) × (count : ℕ)
-        × (request_of (map string_bytes words.now) ≡ Some (Play opts)) × IsScript src.old.rest script
+    ensures write_part { (opts : Opts) → request_of (map string_bytes words.now) ≡ Some (Play opts)
+        → result.status ≡ Status.WriteFault
+        → ((script : Script) × (history : History) × (count : ℕ) × IsScript src.old.rest script
         × IsHistoryOf opts script history × LeavesHeap result.left (heap_for opts script) history
         × (out.new.written ≡ out.old.written ++ take count (text_of opts script history))) }
-    ensures write_fault_reads_all { result.status ≡ Status.WriteFault → src.new.rest ≡ [] }
+    ensures write_fault_reads_all { (opts : Opts) → request_of (map string_bytes words.now) ≡ Some (Play opts)
+        → result.status ≡ Status.WriteFault → src.new.rest ≡ [] }
+    ensures make_part { (rounds : ℕ) → request_of (map string_bytes words.now) ≡ Some (Make rounds)
+        → result.status ≡ Status.WriteFault
+        → ((count : ℕ) × (out.new.written ≡ out.old.written ++ take count (written (generated rounds)))) }
+    ensures drill_part { (rounds : ℕ) (opts : Opts) → request_of (map string_bytes words.now) ≡ Some (Drill rounds opts)
+        → result.status ≡ Status.WriteFault
+        → ((history : History) × (count : ℕ) × IsHistoryOf (summarized opts) (generated rounds) history
+        × LeavesHeap result.left (heap_for opts (generated rounds)) history
+        × (out.new.written ≡ out.old.written ++ take count (text_of (summarized opts) (generated rounds) history))) }
 
-    // A script is played where no fault is counted, or memory is wanting.
+    // A script is played where no fault is counted, and a generated one is written or played; or memory is wanting.
     ensures complete { (opts : Opts) (script : Script) → request_of (map string_bytes words.now) ≡ Some (Play opts)
         → ¬ HasRisen src.old.faults src.new.faults → length src.old.rest ≤ most_bytes
         → IsScript src.old.rest script → ¬ HasRisen out.old.faults out.new.faults
         → IsOrNoMemory Status.Done result.status }
+    ensures make_complete { (rounds : ℕ) → request_of (map string_bytes words.now) ≡ Some (Make rounds)
+        → ¬ HasRisen out.old.faults out.new.faults → IsOrNoMemory Status.Done result.status }
+    ensures drill_complete { (rounds : ℕ) (opts : Opts) → request_of (map string_bytes words.now) ≡ Some (Drill rounds opts)
+        → ¬ HasRisen out.old.faults out.new.faults → IsOrNoMemory Status.Done result.status }
 
     // Each fault that was counted is told, and unless something was played and written the output is as before.
     ensures src_quiet { result.status ≢ Status.ReadFault → src.new.faults ≡ src.old.faults }

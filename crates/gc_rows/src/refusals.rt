@@ -89,11 +89,28 @@ fn scripts_are_refused(rt: HostRuntime) -> Result<(), Fail> {
             "moar_gc: line 5: mutator\n",
         ),
         Row::refuses(
-            "a call that isn't built yet",
+            "a call word that there isn't",
             "moar-gc 1\n\
              mutators 1\n\
-             0 collect\n",
-            "moar_gc: line 3: word\n",
+             0 collect\n\
+             0 collects\n",
+            "moar_gc: line 4: word\n",
+        ),
+        Row::refuses(
+            "a collection of a word more",
+            "moar-gc 1\n\
+             mutators 1\n\
+             0 collect\n\
+             0 collect full\n",
+            "moar_gc: line 4: word\n",
+        ),
+        Row::refuses(
+            "a collection of a mutator that there isn't",
+            "moar-gc 1\n\
+             mutators 1\n\
+             0 collect\n\
+             1 collect\n",
+            "moar_gc: line 4: mutator\n",
         ),
     ] {
         row.check(&rt)?;
@@ -110,9 +127,6 @@ fn words_are_refused(rt: HostRuntime) -> Result<(), Fail> {
         Row::misuses("a word more", &["play", "play"], ONE_BOX),
         Row::misuses("a mode in capitals", &["Play"], ONE_BOX),
         Row::misuses("an option before the mode", &["--reports", "play"], ONE_BOX),
-        Row::misuses("a mode that isn't built yet", &["make", "1"], ONE_BOX),
-        Row::misuses("no rounds", &["make", "0"], ONE_BOX),
-        Row::misuses("a leading zero", &["make", "064"], ONE_BOX),
     ] {
         row.check(&rt)?;
     }

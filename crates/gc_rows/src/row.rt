@@ -30,24 +30,33 @@ const PLAY: &[&str] = &["play"];
 /// The words for the least heap.
 const PLAY_SMALL: &[&str] = &["play", "--nursery", "64", "--pages", "1"];
 
+/// The words for halves of 64 words and one page, with reports.
+pub const ONE_PAGE: &[&str] = &["play", "--nursery", "64", "--pages", "1", "--reports"];
+
+/// The words for halves of 64 words and two pages, with reports.
+pub const TWO_PAGES: &[&str] = &["play", "--nursery", "64", "--pages", "2", "--reports"];
+
+/// The words for halves of 64 words and three pages, with reports.
+pub const THREE_PAGES: &[&str] = &["play", "--nursery", "64", "--pages", "3", "--reports"];
+
 /// A worked row: what is handed to the top call, and what comes of it.
 #[derive(Clone, Copy)]
-pub struct Row {
-    name: &'static str,
-    words: &'static [&'static str],
-    script: &'static str,
+pub struct Row<'a> {
+    name: &'a str,
+    words: &'a [&'a str],
+    script: &'a str,
     /// The most bytes that a call of the source gives.
     step: usize,
     /// The calls of the source that fail, counted from 1.
-    failing_reads: &'static [u32],
-    output: &'static str,
-    error: &'static str,
+    failing_reads: &'a [u32],
+    output: &'a str,
+    error: &'a str,
     status: u8,
 }
 
-impl Row {
+impl<'a> Row<'a> {
     /// A script that is played to its end.
-    pub fn plays(name: &'static str, script: &'static str, output: &'static str) -> Row {
+    pub fn plays(name: &'a str, script: &'a str, output: &'a str) -> Row<'a> {
         Row {
             name,
             words: PLAY,
@@ -61,7 +70,7 @@ impl Row {
     }
 
     /// A script that is refused.
-    pub fn refuses(name: &'static str, script: &'static str, error: &'static str) -> Row {
+    pub fn refuses(name: &'a str, script: &'a str, error: &'a str) -> Row<'a> {
         Row {
             error,
             status: 2,
@@ -70,11 +79,7 @@ impl Row {
     }
 
     /// Words that are no command. The source would fail if it were asked.
-    pub fn misuses(
-        name: &'static str,
-        words: &'static [&'static str],
-        script: &'static str,
-    ) -> Row {
+    pub fn misuses(name: &'a str, words: &'a [&'a str], script: &'a str) -> Row<'a> {
         Row {
             words,
             failing_reads: &[1],
@@ -84,13 +89,22 @@ impl Row {
         }
     }
 
+    /// Words that ask for no script, and what they write. The source would fail if it were asked.
+    pub fn writes(name: &'a str, words: &'a [&'a str], output: &'a str) -> Row<'a> {
+        Row {
+            words,
+            failing_reads: &[1],
+            ..Row::plays(name, ONE_BOX, output)
+        }
+    }
+
     /// The same script with these words.
-    pub fn with_words(self, words: &'static [&'static str]) -> Row {
+    pub fn with_words(self, words: &'a [&'a str]) -> Row<'a> {
         Row { words, ..self }
     }
 
     /// The same script from a source that gives at most so many bytes a call.
-    pub fn with_step(self, step: usize) -> Row {
+    pub fn with_step(self, step: usize) -> Row<'a> {
         Row { step, ..self }
     }
 

@@ -105,36 +105,59 @@ fn each_smaller_half_is_played_and_some_larger_ones(rt: HostRuntime) -> Result<(
     Ok(())
 }
 
-#[test]
-fn the_greatest_heap_is_filled(rt: HostRuntime) -> Result<(), Fail> {
-    let alloc = rt.alloc();
+/// How many objects of 64 words there is room for in the greatest heap, of each mutator: 1,024 in a half of 65,536
+/// words, and 16 in each of 128 pages. The first page of mutator 0 has the class of the common object.
+const GREATEST_ROOM: [u32; 8] = [3056, 3072, 3072, 3072, 3072, 3072, 3072, 3072];
+
+/// A script in which each mutator chains objects of 64 words until it is told that it is full, and then one more; and
+/// what it prints. Last mutator 7 walks its chain.
+fn greatest_chains(alloc: Global) -> Result<(String, String), AllocError> {
     let mut script = String::new(alloc);
     let mut output = String::new(alloc);
-    script.push_str("moar-gc 1\nmutators 8\ntype wide 0 62\n")?;
-    let mut number = 4u64;
-
-    // A half of 65,536 words has room for 1,024 objects of 64 words.
-    for reply in ["done"; 1024].iter().chain(["full"; 2].iter()) {
-        for t in 0..8u8 {
-            writeln!(script, "{t} new r0 wide")?;
-            writeln!(output, "{number} {reply}")?;
-            number = number.saturating_add(1);
+    script.push_str("moar-gc 1\nmutators 8\ntype wide 1 61\n")?;
+    let mut number = 4u32;
+    for object in 0..3074u32 {
+        for (t, room) in GREATEST_ROOM.iter().enumerate() {
+            if object < *room {
+                writeln!(
+                    script,
+                    "{t} new r1 wide\n{t} set r1 60 {object}\n{t} put r1 0 r0\n{t} copy r0 r1"
+                )?;
+                for _ in 0..4 {
+                    writeln!(output, "{number} done")?;
+                    number = number.saturating_add(1);
+                }
+            } else if object < room.saturating_add(2) {
+                writeln!(script, "{t} new r1 wide")?;
+                writeln!(output, "{number} full")?;
+                number = number.saturating_add(1);
+            }
         }
     }
-    let out = printed(
-        &rt,
-        "the greatest heap",
-        script.as_bytes(),
-        &heap(65_536, 128),
-    )?;
+    for object in 1..=3072u32 {
+        writeln!(script, "7 ask r0 60\n7 get r0 r0 0")?;
+        writeln!(output, "{number} {}", 3072u32.saturating_sub(object))?;
+        let reply = if object < 3072 { "done" } else { "nil" };
+        writeln!(output, "{} {reply}", number.saturating_add(1))?;
+        number = number.saturating_add(2);
+    }
+    Ok((script, output))
+}
+
+#[test]
+fn the_greatest_heap_is_filled(rt: HostRuntime) -> Result<(), Fail> {
+    let (script, output) = greatest_chains(rt.alloc())?;
+    let name = "the greatest heap";
+    let out = printed(&rt, name, script.as_bytes(), &heap(65_536, 128))?;
     assert!(rt; out.bytes() == output.as_bytes());
     Ok(())
 }
 
+/// Behind the collections that a new object brings, its mutator's half has no room for it, and no page has.
 #[test]
 fn a_full_half_is_told(rt: HostRuntime) -> Result<(), Fail> {
     for (script, output) in [
-        // The wide object takes 63 of the half's 64 words, so nothing else fits.
+        // The wide object takes 63 of the half's 64 words, so nothing else fits; and the only page has class 20.
         (
             "moar-gc 1\n\
              mutators 1\n\
@@ -149,7 +172,8 @@ fn a_full_half_is_told(rt: HostRuntime) -> Result<(), Fail> {
              7 full\n\
              8 nil base\n",
         ),
-        // Each mutator has a half of its own.
+        // Each mutator has a half of its own, and a page of its own. That of mutator 1 gets class 64: the full collection
+        // that the least object brings promotes the wide one, so the half has room. Another wide one gets a cell.
         (
             "moar-gc 1\n\
              mutators 2\n\
@@ -159,14 +183,46 @@ fn a_full_half_is_told(rt: HostRuntime) -> Result<(), Fail> {
              0 new r1 none\n\
              1 new r0 wide\n\
              1 new r1 none\n\
-             0 same r0 r1\n",
+             0 same r0 r1\n\
+             1 same r0 r1\n\
+             1 new r1 wide\n\
+             0 new r1 none\n",
             "5 done\n\
              6 full\n\
              7 done\n\
-             8 full\n\
-             9 no\n",
+             8 done\n\
+             9 no\n\
+             10 no\n\
+             11 done\n\
+             12 full\n",
         ),
-        // The two take 62 and 2 words, so they fill the half to its last word.
+        // Two collections promote the least object to the page of mutator 1, which gets class 4. The wide object stays in
+        // the half, so there is no cell for another one; but there is one for another least object.
+        (
+            "moar-gc 1\n\
+             mutators 2\n\
+             type wide 61 0\n\
+             type none 0 0\n\
+             1 new r0 none\n\
+             0 collect\n\
+             0 collect\n\
+             1 new r1 wide\n\
+             1 new r2 wide\n\
+             1 new r3 none\n\
+             1 ask r2 0\n\
+             1 same r0 r3\n",
+            "5 done\n\
+             6 done\n\
+             7 done\n\
+             8 done\n\
+             9 full\n\
+             10 done\n\
+             11 nil base\n\
+             12 no\n",
+        ),
+        // The two take 62 and 2 words, so they fill the half to its last word. The third brings a full collection, which
+        // promotes the wide one, so the page gets class 64. Then there is no cell for the least object; it stays in the
+        // half, and the third and the last one fit behind it. A second wide one doesn't, and gets a cell.
         (
             "moar-gc 1\n\
              mutators 8\n\
@@ -175,11 +231,17 @@ fn a_full_half_is_told(rt: HostRuntime) -> Result<(), Fail> {
              7 new r0 wide\n\
              7 new r1 none\n\
              7 new r2 none\n\
-             6 new r2 none\n",
+             7 new r3 wide\n\
+             7 new r3 none\n\
+             6 new r2 none\n\
+             7 same r2 r3\n",
             "5 done\n\
              6 done\n\
-             7 full\n\
-             8 done\n",
+             7 done\n\
+             8 done\n\
+             9 done\n\
+             10 done\n\
+             11 no\n",
         ),
         // What is full leaves the register as it was, and a smaller object may still have its place.
         (
@@ -209,7 +271,7 @@ fn a_full_half_is_told(rt: HostRuntime) -> Result<(), Fail> {
              14 yes\n",
         ),
     ] {
-        let out = printed(&rt, script, script.as_bytes(), &heap(64, 8))?;
+        let out = printed(&rt, script, script.as_bytes(), &heap(64, 1))?;
         assert_eq!(rt; out.bytes(), output.as_bytes(), "at {script:?}");
     }
     Ok(())

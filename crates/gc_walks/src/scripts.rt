@@ -194,8 +194,8 @@ pub const EIGHT: &str = "moar-gc 1\n\
     1 copy r2 r1\n\
     1 same r1 r2\n";
 
-/// A script of so many mutators, with all call words: its lines are drawn.
-pub fn drawn_script(alloc: Global, mutators: u64, lines: u32) -> Result<String, AllocError>
+/// A script of so many mutators, with all call words: so many times a call is drawn, or a few that go together. It uses the registers 0 to 3.
+pub fn drawn_script(alloc: Global, mutators: u64, draws: u32) -> Result<String, AllocError>
     requires { 0 < mutators }
 {
     let mut text = String::new(alloc);
@@ -206,13 +206,14 @@ pub fn drawn_script(alloc: Global, mutators: u64, lines: u32) -> Result<String, 
          type pair 2 0\n\
          type node 4 4\n",
     )?;
-    let mut drawn = Drawn { state: 1 };
-    for _ in 0..lines {
+    let mut drawn = Drawn::make(1);
+    for _ in 0..draws {
         let t = drawn.below(mutators);
-        if drawn.below(5) < 3 {
-            push_field_call(&mut text, &mut drawn, t)?;
-        } else {
-            push_other_call(&mut text, &mut drawn, t)?;
+        match drawn.below(50) {
+            0 => writeln!(text, "{t} collect")?,
+            1..=4 => push_link(&mut text, &mut drawn, t)?,
+            5..=30 => push_field_call(&mut text, &mut drawn, t)?,
+            _ => push_other_call(&mut text, &mut drawn, t)?,
         }
     }
     Ok(text)
@@ -293,13 +294,18 @@ pub fn fan(alloc: Global) -> Result<String, AllocError> {
 
 /// The numbers of a fixed sequence, which look as if they were drawn.
 #[derive(Drop)]
-struct Drawn {
+pub struct Drawn {
     state: u64,
 }
 
 impl Drawn {
+    /// The sequence that begins with this number.
+    pub fn make(state: u64) -> Drawn {
+        Drawn { state }
+    }
+
     /// The next number below a bound.
-    fn below(&mut self, bound: u64) -> u64
+    pub fn below(&mut self, bound: u64) -> u64
         requires { 0 < bound }
         ensures { result < bound }
     {
@@ -319,6 +325,16 @@ fn drawn_type(drawn: &mut Drawn) -> &'static str {
         2 => "pair",
         _ => "node",
     }
+}
+
+/// Puts calls of this mutator behind a script that make a node, which names what a register names, and comes into its place.
+/// So what is reachable grows.
+fn push_link(text: &mut String, drawn: &mut Drawn, t: u64) -> Result<(), AllocError> {
+    let (a, b, k) = (drawn.below(4), drawn.below(4), drawn.below(4));
+    writeln!(
+        text,
+        "{t} new r{a} node\n{t} put r{a} {k} r{b}\n{t} copy r{b} r{a}"
+    )
 }
 
 /// Puts a call of this mutator on an object behind a script: registers, a place and numbers are drawn.
