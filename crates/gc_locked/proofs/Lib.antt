@@ -1,0 +1,9 @@
+pub mod Entered
+pub mod Lists
+pub mod Passes
+pub mod Plans
+pub mod Sent
+pub mod Steps
+pub mod Turns
+pub mod Vain
+pub mod Views

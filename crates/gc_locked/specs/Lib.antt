@@ -1,0 +1,6 @@
+pub mod Guarded
+pub mod Journal
+pub mod Locked
+pub mod Rule
+pub mod Setup
+pub mod Turns
