@@ -1,6 +1,7 @@
 //! The calls of a mutator, and the refusal that comes before any call is made.
-ghost use Rattle.std.specs.Prelude.{◌≡◌};
+ghost use Rattle.std.specs.Prelude.{◌≡◌, ◌≤◌};
 ghost use Rattle.gc_model.specs.Answer.{blocked_refusal};
+ghost use Rattle.gc_model.specs.History.{allowance_of};
 
 use crate::{Reg, Reply};
 use gc_layout::TypeNo;
@@ -97,6 +98,18 @@ impl Call {
             (true, _) => Some(Reply::Blocked),
             (false, Call::Unblock) => Some(Reply::NotBlocked),
             (false, _) => None,
+        }
+    }
+
+    /// How many collections this call may bring: two for a New, one for a Collect, none for any other.
+    pub fn allowance(&self) -> u32
+        ensures allowance { result ≡ allowance_of self.now }
+        ensures most { result ≤ 2 }
+    {
+        match self {
+            Call::New { .. } => 2,
+            Call::Collect => 1,
+            _ => 0,
         }
     }
 }
