@@ -23,6 +23,7 @@ mod faulty;
 mod generate;
 #[cfg(test)]
 mod generate_tests;
+mod heading;
 mod laws;
 mod lines;
 mod names;
@@ -41,6 +42,7 @@ mod write_tests;
 
 pub use fault::ScriptFault;
 pub use generate::make_script;
+pub use heading::Heading;
 pub use laws::{
     a_written_text_gives_its_script, accepted_bytes_are_written_back, each_script_is_read_back,
     texts_of_two_scripts_differ,

@@ -39,6 +39,20 @@ impl Lines {
         })
     }
 
+    /// These lines.
+    pub(crate) fn from_vec(lines: Vec<Line>) -> Lines
+        ensures { result ≡ lines.items }
+    {
+        Lines { lines }
+    }
+
+    pub(crate) fn into_vec(self) -> Vec<Line>
+        ensures { result.items ≡ self }
+    {
+        let Lines { lines } = self;
+        lines
+    }
+
     pub(crate) fn push(&mut self, line: Line) -> Result<(), AllocError>
         ensures ok { OnOk result (self.new ≡ self.old ++ line ∷ []) }
         ensures err { OnErr result (self.new ≡ self.old) }

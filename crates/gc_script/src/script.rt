@@ -3,6 +3,7 @@
 ghost use Rattle.std.specs.Prelude.{◌≡◌, ◌<◌, ◌≤◌, ◌↔◌, length, slice_get, IsNone, IfSome};
 ghost use Rattle.gc_script.specs.Text.{most_bytes};
 
+use crate::heading::Heading;
 use crate::lines::Lines;
 use crate::preamble::Preamble;
 use gc_layout::Types;
@@ -10,7 +11,7 @@ use gc_model::Line;
 use std::marker::Model;
 
 /// The number of the first line behind the version line and the line of the mutators.
-const FIRST_LINE: u32 = 3;
+pub(crate) const FIRST_LINE: u32 = 3;
 
 /// A script that a text is read as: the number of mutators, 1 to 8, the types with their names, and the call
 /// lines. What it is written as is read as it.
@@ -90,6 +91,18 @@ impl Script {
         ensures fit { IfSome result (IsFitLine self.now.preamble) }
     {
         self.lines.get(i)
+    }
+
+    /// The call lines, to be lent, and what stands before them, which can be made a script again with them.
+    pub fn into_parts(self) -> (Heading, Vec<Line>)
+        ensures heading { result.0 ≡ self }
+        ensures lines { result.1.items ≡ self.lines }
+        ensures few { length self.lines ≤ most_bytes }
+        ensures fit { All (IsFitLine self.preamble) self.lines }
+    {
+        let Script { preamble, lines } = self;
+        let heading = Heading::new(preamble, &lines);
+        (heading, lines.into_vec())
     }
 
     /// The number in the text, from 1, of a call line counted from 0. None exactly where `i` isn't below
