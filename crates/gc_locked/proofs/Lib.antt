@@ -1,6 +1,7 @@
 pub mod Entered
 pub mod Lists
 pub mod Passes
+pub mod Places
 pub mod Plans
 pub mod Sent
 pub mod Steps

@@ -1,6 +1,7 @@
 -- Passes: how they are dealt, and what they carry together.
-use Rattle.std.proofs.Common.{◌≡◌, ℕ, zero, suc, ◌+◌, ◌<◌, ◌≤◌, ◌==◌, ◌∙◌, ◌||◌, Bool, true, false, cond, List, [], ◌∷◌, ◌++◌, All, Some, filter, get_or, length, length-append, map, slice_get, take, refl, sym, ap, ap₂, subst, arith, eqb-true}
+use Rattle.std.proofs.Common.{◌≡◌, ℕ, zero, suc, ◌+◌, ◌<◌, ◌≤◌, ◌==◌, ◌∙◌, ◌||◌, Bool, true, false, cond, List, [], ◌∷◌, ◌++◌, All, Option, Some, filter, get_or, length, length-append, map, slice_get, take, refl, sym, ap, ap₂, subst, arith, eqb-true}
 use Rattle.std.proofs.lemmas.Bool.{true≢false}
+use Rattle.std.proofs.Math.ListN.{get_or-map}
 use Rattle.std.proofs.lemmas.List.Elements.{All-cons, All-head, All-nil, All-push, All-tail}
 use Rattle.std.proofs.lemmas.List.Sums.{sum_by-cons}
 use Rattle.std.specs.List.{list_any}
@@ -21,7 +22,7 @@ use Rattle.gc_locked.specs.declared.view.Carried.{Carried}
 use Rattle.gc_locked.specs.Guarded.{GuardedHeap, StandsForItsJournal}
 use Rattle.gc_locked.specs.Locked.{AreAllPasses, AreFit, ArePassesFrom, IsFinished, IsPassOf, LockedHeap, PassView, number_of}
 use Rattle.gc_locked.specs.Rule.{IsNumberIn, numbers_from, times_in}
-use Rattle.gc_locked.specs.Setup.{allowance_of_lines, count_of, heap_of, lines_of, mutators_of, plan_of}
+use Rattle.gc_locked.specs.Setup.{allowance_of_lines, call_at, count_of, heap_of, lines_of, mutators_of, plan_of}
 use Rattle.gc_locked.proofs.Lists.{all-read, read-here, read-mapped}
 use Rattle.gc_locked.proofs.Views.{is_number_of, own-number}
 
@@ -72,10 +73,11 @@ collections-reports (Made t call reply ∷ journal) = collections-reports journa
 collections-reports (Run report ∷ journal) = ap suc (collections-reports journal)
 
 -- a heap that stands for its journal, and whose journal has as many calls as the passes say, is what is handed back
-pub finished : (locked : LockedHeap) (passes : List PassView) (guarded : GuardedHeap) → guarded.setup ≡ locked.setup
-    → StandsForItsJournal guarded → All (IsNumberIn locked.setup guarded.journal) (map (own_number locked.setup) passes)
-    → IsFinished locked passes (record { entries = guarded.journal; heap = guarded.heap })
-finished locked passes guarded same stands numbers =
+pub finished : (locked : LockedHeap) (passes : List PassView) (guarded : GuardedHeap) (lines : Option (List Line))
+    → guarded.setup ≡ locked.setup → StandsForItsJournal guarded
+    → All (IsNumberIn locked.setup guarded.journal) (map (own_number locked.setup) passes)
+    → IsFinished locked passes (record { entries = guarded.journal; heap = guarded.heap; lines = lines })
+finished locked passes guarded lines same stands numbers =
     let heap = heap_of locked.setup in
     let kept = subst (λ (setup : Setup). IsSameHeap (heap_of setup) guarded.heap) same stands.same in
     let calls = subst (λ (setup : Setup). (t : ℕ) → t < mutators_of setup
@@ -99,14 +101,15 @@ finished locked passes guarded same stands numbers =
     }
 
 -- the same, where the journal and the heap are other names of these
-pub finished-as : (locked : LockedHeap) (passes : List PassView) (guarded : GuardedHeap) → guarded.setup ≡ locked.setup
-    → StandsForItsJournal guarded → All (IsNumberIn locked.setup guarded.journal) (map (own_number locked.setup) passes)
+pub finished-as : (locked : LockedHeap) (passes : List PassView) (guarded : GuardedHeap) (lines : Option (List Line))
+    → guarded.setup ≡ locked.setup → StandsForItsJournal guarded
+    → All (IsNumberIn locked.setup guarded.journal) (map (own_number locked.setup) passes)
     → (entries : History) (heap : Kept) → entries ≡ guarded.journal → heap ≡ guarded.heap
-    → IsFinished locked passes (record { entries = entries; heap = heap })
-finished-as locked passes guarded same stands numbers entries heap entries_are heap_is =
-    subst (λ (each : History). IsFinished locked passes (record { entries = each; heap = heap })) (sym entries_are)
-    (subst (λ (each : Kept). IsFinished locked passes (record { entries = guarded.journal; heap = each })) (sym heap_is)
-    (finished locked passes guarded same stands numbers))
+    → IsFinished locked passes (record { entries = entries; heap = heap; lines = lines })
+finished-as locked passes guarded lines same stands numbers entries heap entries_are heap_is =
+    subst (λ (each : History). IsFinished locked passes (record { entries = each; heap = heap; lines = lines })) (sym entries_are)
+    (subst (λ (each : Kept). IsFinished locked passes (record { entries = guarded.journal; heap = each; lines = lines })) (sym heap_is)
+    (finished locked passes guarded lines same stands numbers))
 
 -- where there is a mutator, there is a pass
 pub passes-some : (locked : LockedHeap) (passes : List PassView) → AreAllPasses locked passes → 0 < mutators_of locked.setup
@@ -145,6 +148,16 @@ planned items plans lines t made own call at is left read =
     let plan : items own ≡ plan_of lines t = read-mapped items plans t (plan_of lines t) own at is in
     read-here (plan_of lines t) made call (omega (arith, left, length-append (calls_in t lines) (End ∷ [])))
     (read ∙ ap (λ (calls : List Call). get_or calls made call) plan)
+
+-- and as it is read from the lines, at the place that stands in the plan
+pub planned-at : {V : Type 0} (items : V → List ℕ) (plans : List V) (kept lines : List Line) (t made : ℕ) (own : V) (place : ℕ)
+    (call : Call) → slice_get (map (λ plan. map (call_at kept) (items plan)) plans) t ≡ Some (plan_of lines t)
+    → own ≡ get_or plans t own → made ≤ length (calls_in t lines) → place ≡ get_or (items own) made place → call ≡ call_at kept place
+    → slice_get (plan_of lines t) made ≡ Some call
+planned-at items plans kept lines t made own place call at is left read value =
+    planned (λ plan. map (call_at kept) (items plan)) plans lines t made own call at is left
+    (value ∙ ap (call_at kept) read ∙ sym (get_or-map (call_at kept) (items own) made place)
+    ∙ ap (λ (other : Call). get_or (map (call_at kept) (items own)) made other) (sym value))
 
 -- two setups of the same heap and the same lines are one
 pub setup-same : (one other : Setup) → one.heap.value ≡ other.heap.value → one.lines.value ≡ other.lines.value → one ≡ other

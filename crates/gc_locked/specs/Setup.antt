@@ -1,5 +1,5 @@
 -- What a locked heap is made for: its heap as it was made, and the lines that are to be played.
-use Rattle.std.specs.Prelude.{ℕ, zero, suc, ◌+◌, List, [], ◌∷◌, ◌++◌, length, sum_by}
+use Rattle.std.specs.Prelude.{ℕ, zero, suc, ◌+◌, List, [], ◌∷◌, ◌++◌, length, Option, None, Some, slice_get, sum_by}
 use Rattle.gc_model.specs.declared.call.Call.{Call}
 use Rattle.gc_model.specs.declared.call.Call.TheVariants.{End}
 use Rattle.gc_model.specs.declared.call.Line.{Line}
@@ -22,6 +22,15 @@ mutators_of setup = (heap_of setup).layout.mutators
 -- what a mutator calls: its lines in their order, and one End
 abbrev pub plan_of : List Line → ℕ → List Call
 plan_of lines t = calls_in t lines ++ End ∷ []
+
+-- the call of a line, or End where there is none
+abbrev pub call_or_end : Option Line → Call
+call_or_end (Some line) = line.call
+call_or_end None = End
+
+-- the call at a place among the lines, where behind the last one stands End
+abbrev pub call_at : List Line → ℕ → Call
+call_at lines at = call_or_end (slice_get lines at)
 
 -- how many calls of a mutator a history has
 abbrev pub count_of : ℕ → History → ℕ

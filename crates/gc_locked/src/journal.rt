@@ -1,17 +1,18 @@
 //! The journal that is handed back.
-ghost use Rattle.std.specs.Prelude.{◌≡◌, ◌≤◌, ◌↔◌, length, slice_get, IsNone};
+ghost use Rattle.std.specs.Prelude.{◌≡◌, ◌≤◌, ◌↔◌, length, option_map, slice_get, IsNone, None};
 
-use gc_model::Entry;
+use gc_model::{Entry, Line};
 use gc_solo::Solo;
 use std::marker::Model;
 use std::snapshot::Snapshot;
 
 /// The entries of one legal history, in their order, and, for clauses alone, the heap that stood for it when it was
-/// handed back.
+/// handed back. Beside them are the lines that were to be played, which can be taken back.
 #[derive(Drop)]
 pub struct Journal {
     pub(crate) entries: Vec<Entry>,
     pub(crate) heap: Snapshot<Solo>,
+    pub(crate) lines: Option<Vec<Line>>,
 }
 
 impl Model for Journal {
@@ -41,5 +42,13 @@ impl Journal {
         ensures stands { StandsFor self.now.heap self.now.entries }
     {
         self.entries.as_slice()
+    }
+
+    /// Takes the lines back that the heap was made for. None where they were taken before.
+    pub fn take_lines(&mut self) -> Option<Vec<Line>>
+        ensures lines { option_map (λ lines. lines.items) result ≡ self.old.lines }
+        ensures rest { self.new ≡ record self.old { lines = None } }
+    {
+        self.lines.take()
     }
 }

@@ -8,7 +8,7 @@ ghost use Rattle.gc_locked.specs.Setup.{count_of, heap_of, lines_of, mutators_of
 use crate::guarded::Guarded;
 use crate::journal::Journal;
 use crate::pass::{Pass, deal};
-use crate::plan::{allowance, plans};
+use crate::plan::{allowance, call_at, plans};
 use crate::rule::{Claim, Gather, Lock, Release};
 use crate::setup::Setup;
 use crate::view::View;
@@ -28,7 +28,9 @@ const MOST_ASKS: u32 = 1_000_000;
 #[derive(Drop)]
 pub struct Locked {
     table: Lock,
-    plans: Vec<Vec<Call>>,
+    lines: Vec<Line>,
+    /// Of each mutator the places of its calls among the lines.
+    plans: Vec<Vec<u32>>,
 }
 
 impl Model for Locked {
@@ -87,7 +89,22 @@ impl Locked {
             return Err(NoMemory);
         };
         let passes = deal(alloc, &table, seat, places.mutators())?;
-        Ok((Locked { table, plans }, passes))
+        Ok((
+            Locked {
+                table,
+                lines,
+                plans,
+            },
+            passes,
+        ))
+    }
+
+    /// The lines of all mutators.
+    pub fn lines(&self) -> &[Line]
+        ensures lines { result.now ≡ lines_of self.now.setup }
+        ensures few { length result.now ≤ 16777216 }
+    {
+        self.lines.as_slice()
     }
 
     /// Makes the next call of the pass's mutator, its next line or, behind the last, its End, in one critical section.
@@ -123,7 +140,8 @@ impl Locked {
         ensures fit { IsFit (heap_of self.now.setup).types (mutators_of self.now.setup) mutator result }
         ensures few { made ≤ 16777216 }
     {
-        self.plans[mutator as usize][made as usize]
+        let place = self.plans[mutator as usize][made as usize];
+        call_at(self.lines.as_slice(), place)
     }
 
     /// Makes the next call of the pass's mutator, where the lock is to be had at once.
@@ -163,13 +181,23 @@ impl Locked {
     pub fn finish(self, passes: Vec<Pass>) -> Journal
         requires all { AreAllPasses self passes.items }
         ensures finished { IsFinished self passes.items result }
+        ensures lines { result.lines ≡ Some (lines_of self.setup) }
         ensures stands { StandsFor result.heap result.entries }
     {
         let seat = self.gather(passes);
-        let mut closed = self.table.close_with(seat);
+        let Locked {
+            table,
+            lines,
+            plans: _,
+        } = self;
+        let mut closed = table.close_with(seat);
         let (entries, heap) = closed.take(0).into_parts();
         closed.free();
-        Journal { entries, heap }
+        Journal {
+            entries,
+            heap,
+            lines: Some(lines),
+        }
     }
 
     /// One seat that carries the numbers of all passes.

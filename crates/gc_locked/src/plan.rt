@@ -1,7 +1,6 @@
 //! What each mutator calls: its lines in their order, and one End.
 ghost use Rattle.std.specs.Prelude.{◌≡◌, ◌<◌, ◌≤◌, ◌*◌, ℕ, length, map, slice_get, IfOk, Some};
-ghost use Rattle.gc_locked.specs.Setup.{allowance_of_lines, plan_of};
-ghost use Rattle.gc_model.specs.History.{allowance_of};
+ghost use Rattle.gc_locked.specs.Setup.{allowance_of_lines, call_at, plan_of};
 
 use gc_model::{Call, Line};
 use std::alloc::{AllocError, Global};
@@ -14,31 +13,21 @@ pub(crate) fn allowance(lines: &[Line]) -> u32
 {
     let mut sum = 0;
     for index in 0..lines.len() {
-        sum += call_allowance(&lines[index].call);
+        sum += lines[index].call.allowance();
     }
     sum
 }
 
-/// How many collections a call may bring.
-fn call_allowance(call: &Call) -> u32
-    ensures allowance { result ≡ allowance_of call.now }
-    ensures most { result ≤ 2 }
-{
-    match call {
-        Call::New { .. } => 2,
-        Call::Collect => 1,
-        _ => 0,
-    }
-}
-
-/// What each mutator calls.
+/// What each mutator calls: the places of its lines among all of them, and behind these the place behind the last line, which
+/// stands for its End.
 pub(crate) fn plans(
     alloc: Global,
     lines: &[Line],
     mutators: u8,
-) -> Result<Vec<Vec<Call>>, AllocError>
+) -> Result<Vec<Vec<u32>>, AllocError>
+    requires few { length lines.now ≤ 16777216 }
     ensures plans { IfOk result (λ plans. (t : ℕ) → t < mutators
-        → slice_get (map (λ plan. plan.items) plans.items) t ≡ Some (plan_of lines.now t)) }
+        → slice_get (map (λ plan. map (call_at lines.now) plan.items) plans.items) t ≡ Some (plan_of lines.now t)) }
 {
     let mut plans = Vec::new(alloc);
     for t in 0..mutators {
@@ -48,15 +37,26 @@ pub(crate) fn plans(
 }
 
 /// What a mutator calls.
-fn plan(alloc: Global, lines: &[Line], t: u8) -> Result<Vec<Call>, AllocError>
-    ensures plan { IfOk result (λ plan. plan.items ≡ plan_of lines.now t) }
+fn plan(alloc: Global, lines: &[Line], t: u8) -> Result<Vec<u32>, AllocError>
+    requires few { length lines.now ≤ 16777216 }
+    ensures plan { IfOk result (λ plan. map (call_at lines.now) plan.items ≡ plan_of lines.now t) }
 {
-    let mut calls = Vec::new(alloc);
+    let mut places = Vec::new(alloc);
     for index in 0..lines.len() {
         if lines[index].mutator == t {
-            calls.push(lines[index].call)?;
+            places.push(index as u32)?;
         }
     }
-    calls.push(Call::End)?;
-    Ok(calls)
+    places.push(lines.len() as u32)?;
+    Ok(places)
+}
+
+/// The call at a place among lines, where behind the last one stands End.
+pub(crate) fn call_at(lines: &[Line], place: u32) -> Call
+    ensures { result ≡ call_at lines.now place }
+{
+    match lines.get(place as usize) {
+        Some(line) => line.call,
+        None => Call::End,
+    }
 }

@@ -33,7 +33,7 @@ returns-clause-finished c =
     let own = subst (λ (each : GuardedHeap). All (IsNumberIn locked.setup each.journal) (map (own_number locked.setup) passes)) taken
     (subst (λ (setup : Setup). All (IsNumberIn setup guarded.journal) (map (own_number locked.setup) passes)) same
     (subst (λ each. All (IsNumberIn key guarded.journal) each) carried numbers)) in
-    finished-as locked passes c.take.result (sym (ap (λ (each : GuardedHeap). each.setup) taken) ∙ setup_is ∙ same)
+    finished-as locked passes c.take.result _ (sym (ap (λ (each : GuardedHeap). each.setup) taken) ∙ setup_is ∙ same)
     c.into_parts-entries.ensures.stands own _ _ c.into_parts-entries.ensures.entries c.into_parts-entries.ensures.heap
 
 -- and the heap stood for it
