@@ -2,13 +2,11 @@
 ghost use Rattle.std.specs.Prelude.{◌≡◌, ◌≤◌, All, map, vec_capacity};
 ghost use Rattle.std.specs.Thread.{IsSync};
 ghost use Rattle.gc_locked.specs.Locked.{LockedHeap, PassView};
-ghost use Rattle.gc_locked.specs.Setup.{lines_of};
 ghost use Rattle.gc_workers.specs.Workers.{IsFresh, done_by};
 
 use crate::worker::play_part;
 use gc_io::Gate;
 use gc_locked::{Locked, Pass};
-use gc_script::Script;
 use std::sync::Wait;
 use std::thread::{Threads, join};
 
@@ -17,11 +15,11 @@ use std::thread::{Threads, join};
 pub(crate) fn play_all<R: Threads + Wait + Sync, G: Gate + Sync>(
     rt: &R,
     locked: &Locked,
-    script: &Script,
+    first: u32,
     gate: &G,
     mut passes: Vec<Pass>,
 ) -> Vec<Pass>
-    requires lines { lines_of locked.now.setup ≡ script.now.lines }
+    requires first { first ≤ 258 }
     requires fresh { All (IsFresh locked.now) passes.items }
     ensures done { result.items ≡ map (done_by locked.now) passes.items }
     ensures memory { vec_capacity passes ≤ vec_capacity result }
@@ -32,13 +30,13 @@ pub(crate) fn play_all<R: Threads + Wait + Sync, G: Gate + Sync>(
     let (pass, mut passes) = join(
         rt,
         || -> Pass
-            requires { IsFresh locked.now pass × (lines_of locked.now.setup ≡ script.now.lines) }
+            requires { IsFresh locked.now pass × (first ≤ 258) }
             ensures { result ≡ done_by locked.entry.now pass }
-        { play_part(rt, locked, script, gate, pass) },
+        { play_part(rt, locked, first, gate, pass) },
         || -> Vec<Pass>
-            requires { IsSync R.row × IsSync G.row × All (IsFresh locked.now) passes.items × (lines_of locked.now.setup ≡ script.now.lines) }
+            requires { IsSync R.row × IsSync G.row × All (IsFresh locked.now) passes.items × (first ≤ 258) }
             ensures { (result.items ≡ map (done_by locked.entry.now) passes.items) × (vec_capacity passes ≤ vec_capacity result) }
-        { play_all(rt, locked, script, gate, passes) },
+        { play_all(rt, locked, first, gate, passes) },
     );
     passes.push_reserved(pass);
     passes

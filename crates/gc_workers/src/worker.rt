@@ -8,32 +8,25 @@ ghost use Rattle.gc_workers.specs.Workers.{IsFresh, done_by};
 use crossbeam_utils::Backoff;
 use gc_io::Gate;
 use gc_locked::{Locked, Pass};
-use gc_model::Line;
-use gc_script::Script;
 use std::sync::Wait;
 
-/// Makes the lines of the pass's mutator in their order, each after the gate let it pass, and then its End.
+/// Makes the lines of the pass's mutator in their order, each after the gate let it pass, and then its End. The first line
+/// of all has the number `first` in the text.
 pub(crate) fn play_part<R: Wait, G: Gate>(
     rt: &R,
     locked: &Locked,
-    script: &Script,
+    first: u32,
     gate: &G,
     mut pass: Pass,
 ) -> Pass
-    requires lines { lines_of locked.now.setup ≡ script.now.lines }
+    requires first { first ≤ 258 }
     requires fresh { IsFresh locked.now pass }
     ensures done { result ≡ done_by locked.now pass }
 {
-    for index in 0..script.count() {
-        let Line { mutator, .. } = script.line(index).unwrap();
-        if mutator == pass.mutator() {
-            play_line(
-                rt,
-                locked,
-                gate,
-                &mut pass,
-                script.line_number(index).unwrap(),
-            );
+    let lines = locked.lines();
+    for index in 0..lines.len() {
+        if lines[index].mutator == pass.mutator() {
+            play_line(rt, locked, gate, &mut pass, first + index as u32);
         }
     }
     locked.step(rt, &mut pass);

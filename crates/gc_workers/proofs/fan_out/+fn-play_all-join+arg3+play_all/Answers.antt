@@ -1,18 +1,12 @@
-use denote.Param.Send.{IsSync, sendable}
+use denote.Param.Send.{sendable}
 use Rattle.std.proofs.Common.{rules}
-use Rattle.std.proofs.Crossing.{crosses}
 use Rattle.gc_locked.proofs.Sent.{locked_sync, pass_send}
-use Rattle.gc_script.specs.contracts.script.Script as Script
 use Rattle.gc_workers.proofs.fan_out.+fn-play_all-join+arg3+play_all.Goals as goal
-
--- a script may be seen by several threads
-script_sync : IsSync Script.the_field.row
-script_sync = search (sendable, crosses) depth 40 fits 5000
 
 -- what the worker takes with it may go to another thread
 pub join-pass-requires-send-F : goal.join-pass-requires-send-F
 join-pass-requires-send-F g t c κs within =
-    let locked = locked_sync in let pass = pass_send in let script = script_sync in search (sendable, rules) depth 40
+    let locked = locked_sync in let pass = pass_send in search (sendable, rules) depth 40
 
 -- and so may the pass that it gives back
 pub join-pass-requires-send-A : goal.join-pass-requires-send-A
