@@ -3,9 +3,9 @@ use Rattle.std.proofs.Common.{◌≡◌, ℕ, ◌≤◌, List, [], ◌∷◌, Bo
 use Rattle.std.specs.Str.{bytes_eq}
 use Rattle.std.proofs.lemmas.Bool.Decides.{nat_tests}
 use Rattle.gc_script.specs.Words.{numeral}
-use Rattle.gc_cli.specs.declared.command.Request.TheVariants.{Play, Make}
+use Rattle.gc_cli.specs.declared.command.Request.TheVariants.{Play, Run, Make}
 use Rattle.gc_cli.specs.declared.opts.Opts.{Opts}
-use Rattle.gc_cli.specs.Command.{Piece, drill_from, drill_of, flag_given, make_of, number_given, number_within, opts_from, opts_of, pieces_of, play_of, request_of, rounds_of, values_of, within}
+use Rattle.gc_cli.specs.Command.{Piece, drill_from, drill_of, flag_given, make_of, number_given, number_within, opts_alone, opts_from, opts_of, pieces_of, request_of, rounds_of, values_of, within}
 use Rattle.gc_cli.specs.Played.{AreAllowed, AreAllowedRounds, IsAllowed}
 
 -- a fact of what is there, of two
@@ -66,12 +66,18 @@ opts_of-limits pieces =
     (number_given-limits 64 65536 (Some 4096) (values_of (codes "nursery") pieces) (omega arith, omega arith))
     (number_given-limits 1 128 (Some 8) (values_of (codes "pages") pieces) (omega arith, omega arith))
 
--- what `play` asks for
-play_of-limits : (pieces : List Piece) → IfSome (play_of pieces) IsAllowed
-play_of-limits pieces =
-    IfSome-if IsAllowed (length (values_of (codes "rounds") pieces) == 0) (option_map Play (opts_of pieces)) None
-    (IfSome-map AreAllowed IsAllowed Play (opts_of pieces) (opts_of-limits pieces) (λ opts allowed. allowed))
-    tt
+-- the options alone
+opts_alone-limits : (pieces : List Piece) → IfSome (opts_alone pieces) AreAllowed
+opts_alone-limits pieces =
+    IfSome-if AreAllowed (length (values_of (codes "rounds") pieces) == 0) (opts_of pieces) None (opts_of-limits pieces) tt
+
+-- what `play` and `run` ask for
+play-limits : (pieces : List Piece) → IfSome (option_map Play (opts_alone pieces)) IsAllowed
+play-limits pieces =
+    IfSome-map AreAllowed IsAllowed Play (opts_alone pieces) (opts_alone-limits pieces) (λ opts allowed. allowed)
+
+run-limits : (pieces : List Piece) → IfSome (option_map Run (opts_alone pieces)) IsAllowed
+run-limits pieces = IfSome-map AreAllowed IsAllowed Run (opts_alone pieces) (opts_alone-limits pieces) (λ opts allowed. allowed)
 
 -- what `make` asks for
 make_of-limits : (words : List (List ℕ)) → IfSome (make_of words) IsAllowed
@@ -100,10 +106,8 @@ request_of-limits [] = tt
 request_of-limits (mode ∷ words) =
     let drill = if bytes_eq mode (codes "drill") then drill_of (pieces_of words) else None in
     let make = if bytes_eq mode (codes "make") then make_of words else drill in
-    IfSome-if IsAllowed (bytes_eq mode (codes "play")) _ make (play_of-limits (pieces_of words))
+    let run = if bytes_eq mode (codes "run") then option_map Run (opts_alone (pieces_of words)) else make in
+    IfSome-if IsAllowed (bytes_eq mode (codes "play")) _ run (play-limits (pieces_of words))
+    (IfSome-if IsAllowed (bytes_eq mode (codes "run")) _ make (run-limits (pieces_of words))
     (IfSome-if IsAllowed (bytes_eq mode (codes "make")) _ drill (make_of-limits words)
-    (IfSome-if IsAllowed (bytes_eq mode (codes "drill")) _ None (drill_of-limits (pieces_of words)) tt))
-
--- the options that the words ask for are within their limits
-pub request-allowed : (words : List (List ℕ)) (opts : Opts) → request_of words ≡ Some (Play opts) → AreAllowed opts
-request-allowed words opts is = rw is at (request_of-limits words)
+    (IfSome-if IsAllowed (bytes_eq mode (codes "drill")) _ None (drill_of-limits (pieces_of words)) tt)))

@@ -2,7 +2,7 @@
 use Rattle.std.proofs.Common.{◌≡◌, ℕ, List, [], ◌∷◌, Bool, true, false, Some, None, is_some, not, codes, refl}
 use Rattle.std.specs.List.{list_all}
 use Rattle.gc_script.specs.Words.{numeral}
-use Rattle.gc_cli.specs.declared.command.Request.TheVariants.{Play, Make, Drill}
+use Rattle.gc_cli.specs.declared.command.Request.TheVariants.{Play, Run, Make, Drill}
 use Rattle.gc_cli.specs.declared.opts.Opts.{Opts}
 use Rattle.gc_cli.specs.Command.{number_within, pieces_of, request_of}
 
@@ -29,6 +29,16 @@ play-most : request_of (codes "play" ∷ codes "--nursery=65536" ∷ codes "--pa
     ≡ Some (Play (opts 65536 128 false false))
 unfolding request_of pieces_of number_within numeral
 play-most = refl
+
+run-alone : request_of (codes "run" ∷ []) ≡ Some (Run (opts 4096 8 false false))
+unfolding request_of pieces_of
+run-alone = refl
+
+run-all : request_of
+    (codes "run" ∷ codes "--pages" ∷ codes "2" ∷ codes "--reports" ∷ codes "--summary" ∷ codes "--nursery=100" ∷ [])
+    ≡ Some (Run (opts 100 2 true true))
+unfolding request_of pieces_of number_within numeral
+run-all = refl
 
 make-least : request_of (codes "make" ∷ codes "1" ∷ []) ≡ Some (Make 1)
 unfolding request_of number_within numeral
@@ -61,7 +71,7 @@ no-words : request_of [] ≡ None
 unfolding request_of
 no-words = refl
 
-no-mode : (request_of (codes "run" ∷ []) ≡ None) × (request_of (codes "--reports" ∷ codes "play" ∷ []) ≡ None)
+no-mode : (request_of (codes "runs" ∷ []) ≡ None) × (request_of (codes "--reports" ∷ codes "play" ∷ []) ≡ None)
 unfolding request_of
 no-mode = (refl, refl)
 

@@ -13,8 +13,8 @@ use Rattle.clap.specs.declared.parser.matches.ArgMatches.{ArgMatches}
 use Rattle.clap.specs.declared.parser.matches.ValueSource.TheVariants.{DefaultValue}
 use Rattle.clap.proofs.FaultLemmas.{leaf_fault}
 use Rattle.clap.proofs.WalkLemmas.{first_value-rows, one_text-rows}
-use Rattle.gc_cli.specs.declared.command.Request.TheVariants.{Play}
-use Rattle.gc_cli.specs.Command.{Piece, drill_of, make_of, opts_of, pieces_of, play_of, request_of, values_of}
+use Rattle.gc_cli.specs.declared.command.Request.TheVariants.{Play, Run}
+use Rattle.gc_cli.specs.Command.{Piece, drill_of, make_of, opts_alone, opts_of, pieces_of, request_of, values_of}
 use Rattle.gc_cli.specs.Commands.{Finds, HoldsFlag, HoldsOptions, HoldsValue, drill_app, is_dashes, play_app}
 use Rattle.gc_cli.proofs.PieceLemmas.{AreRight, is_flag_name, neither, same_test, same_text, wrong-drill, wrong-play}
 use Rattle.gc_cli.proofs.WordLemmas.{dashes-make, dashes-wrong, or_else-nil}
@@ -297,22 +297,23 @@ drill-rows words =
 
 -- ---- what is found
 
--- without a number `play` asks for what the options give
-play_of-options : (pieces : List Piece) → values_of (codes "rounds") pieces ≡ [] → play_of pieces ≡ option_map Play (opts_of pieces)
-play_of-options pieces none = ap (λ values. if length values == 0 then option_map Play (opts_of pieces) else None) none
+-- without a number there are the options alone
+opts_alone-options : (pieces : List Piece) → values_of (codes "rounds") pieces ≡ [] → opts_alone pieces ≡ opts_of pieces
+opts_alone-options pieces none = ap (λ values. if length values == 0 then opts_of pieces else None) none
 
 -- what `play` finds are the options of the pieces, of which none is a number
 pub play-finds : (words : List Text) (matches : ArgMatches) → list_any is_dashes words ≡ false → Finds play_app words (Some matches)
-    → HoldsOptions matches (pieces_of words) × (play_of (pieces_of words) ≡ option_map Play (opts_of (pieces_of words)))
+    → HoldsOptions matches (pieces_of words) × (opts_alone (pieces_of words) ≡ opts_of (pieces_of words))
 play-finds words matches free found = elim (all_words (codes "play") false play_rules play_reads words free) [
   | inl good ↦
       let rows = found.1 ∙ play-rows words ∙ ap with_flags good.1 in
-      (holds-options false matches (pieces_of words) good.2 rows, play_of-options (pieces_of words) (good.2.numberless refl))
+      (holds-options false matches (pieces_of words) good.2 rows, opts_alone-options (pieces_of words) (good.2.numberless refl))
   | inr bad ↦ absurd (bad.0 (sym (play-fault words) ∙ found.0))
 ]
 
 -- where it refuses the words, they ask for nothing
-pub play-refuses : (words : List Text) → list_any is_dashes words ≡ false → Finds play_app words None → play_of (pieces_of words) ≡ None
+pub play-refuses : (words : List Text) → list_any is_dashes words ≡ false → Finds play_app words None
+    → opts_alone (pieces_of words) ≡ None
 play-refuses words free refused = elim (all_words (codes "play") false play_rules play_reads words free) [
   | inl good ↦ absurd (refused (play-fault words ∙ good.0))
   | inr bad ↦ wrong-play (pieces_of words) bad.1
@@ -355,16 +356,30 @@ dashes-refused mode words some =
     make true second third = second
     make false second third = drill (bytes_eq mode (codes "drill")) third
 
-    play : (b : Bool) → play_of (pieces_of words) ≡ None → make_of words ≡ None → drill_of (pieces_of words) ≡ None
-        → (if b then play_of (pieces_of words) else (if bytes_eq mode (codes "make") then make_of words
+    run : (b : Bool) → opts_alone (pieces_of words) ≡ None → make_of words ≡ None → drill_of (pieces_of words) ≡ None
+        → (if b then option_map Run (opts_alone (pieces_of words)) else (if bytes_eq mode (codes "make") then make_of words
         else (if bytes_eq mode (codes "drill") then drill_of (pieces_of words) else None))) ≡ None
-    play true first second third = first
-    play false first second third = make (bytes_eq mode (codes "make")) second third
+    run true first second third = ap (option_map Run) first
+    run false first second third = make (bytes_eq mode (codes "make")) second third
+
+    play : (b : Bool) → opts_alone (pieces_of words) ≡ None → make_of words ≡ None → drill_of (pieces_of words) ≡ None
+        → (if b then option_map Play (opts_alone (pieces_of words))
+        else (if bytes_eq mode (codes "run") then option_map Run (opts_alone (pieces_of words))
+        else (if bytes_eq mode (codes "make") then make_of words
+        else (if bytes_eq mode (codes "drill") then drill_of (pieces_of words) else None)))) ≡ None
+    play true first second third = ap (option_map Play) first
+    play false first second third = run (bytes_eq mode (codes "run")) first second third
 
 -- what each mode asks for, and that no other asks for anything
-pub request_of-play : (mode : Text) (words : List Text) → mode ≡ codes "play" → play_of (pieces_of words) ≡ request_of (mode ∷ words)
+pub request_of-play : (mode : Text) (words : List Text) → mode ≡ codes "play"
+    → option_map Play (opts_alone (pieces_of words)) ≡ request_of (mode ∷ words)
 unfolding request_of
 request_of-play mode words is = rw is refl
+
+pub request_of-run : (mode : Text) (words : List Text) → mode ≡ codes "run"
+    → option_map Run (opts_alone (pieces_of words)) ≡ request_of (mode ∷ words)
+unfolding request_of
+request_of-run mode words is = rw is refl
 
 pub request_of-make : (mode : Text) (words : List Text) → mode ≡ codes "make" → make_of words ≡ request_of (mode ∷ words)
 unfolding request_of
@@ -374,13 +389,14 @@ pub request_of-drill : (mode : Text) (words : List Text) → mode ≡ codes "dri
 unfolding request_of
 request_of-drill mode words is = rw is refl
 
-pub request_of-other : (mode : Text) (words : List Text) → (mode ≡ codes "play" → ⊥) → (mode ≡ codes "make" → ⊥)
-    → (mode ≡ codes "drill" → ⊥)
+pub request_of-other : (mode : Text) (words : List Text) → (mode ≡ codes "play" → ⊥) → (mode ≡ codes "run" → ⊥)
+    → (mode ≡ codes "make" → ⊥) → (mode ≡ codes "drill" → ⊥)
     → None ≡ request_of (mode ∷ words)
 unfolding request_of
-request_of-other mode words no_play no_make no_drill =
+request_of-other mode words no_play no_run no_make no_drill =
     rw (
       differs (codes "play") (bytes_eq mode (codes "play")) refl no_play,
+      differs (codes "run") (bytes_eq mode (codes "run")) refl no_run,
       differs (codes "make") (bytes_eq mode (codes "make")) refl no_make,
       differs (codes "drill") (bytes_eq mode (codes "drill")) refl no_drill,
     ) refl

@@ -1,13 +1,12 @@
 -- The pieces of the words behind a mode: their values by name, and what makes the whole no request.
-use Rattle.std.proofs.Common.{◌≡◌, ◌⊎◌, inl, inr, ℕ, ◌≤◌, List, [], ◌∷◌, ◌++◌, length, map, filter, Bool, true, false, ◌||◌, cond, Option, Some, None, option_map, ◌==◌, codes, refl, sym, ◌∙◌, ap, subst, arith, append-nil, length-append, true≢false}
+use Rattle.std.proofs.Common.{◌≡◌, ◌⊎◌, inl, inr, ℕ, ◌≤◌, List, [], ◌∷◌, ◌++◌, length, map, filter, Bool, true, false, ◌||◌, cond, Option, Some, None, ◌==◌, codes, refl, sym, ◌∙◌, ap, subst, arith, append-nil, length-append, true≢false}
 use Rattle.std.specs.List.{list_any}
 use Rattle.std.specs.Str.{bytes_eq}
 use Rattle.std.proofs.lemmas.Bool.{ne_eqb}
 use Rattle.std.proofs.lemmas.Slice.Eq.{bytes_eq-Decides}
 use Rattle.gc_script.specs.Words.{numeral}
-use Rattle.gc_cli.specs.declared.command.Request.TheVariants.{Play}
 use Rattle.gc_cli.specs.declared.opts.Opts.{Opts}
-use Rattle.gc_cli.specs.Command.{Piece, drill_from, drill_of, flag_given, number_given, number_within, opts_from, opts_of, play_of, values_of}
+use Rattle.gc_cli.specs.Command.{Piece, drill_from, drill_of, flag_given, number_given, number_within, opts_alone, opts_from, opts_of, values_of}
 
 -- ---- tests
 
@@ -233,16 +232,16 @@ is_rounds name (of_reports is) = inr (λ rounds. true≢false (ap (bytes_eq (cod
 is_rounds name (of_summary is) = inr (λ rounds. true≢false (ap (bytes_eq (codes "summary")) (sym is ∙ rounds)))
 is_rounds name (of_rounds is) = inl is
 
-play_of-opts : (pieces : List Piece) → opts_of pieces ≡ None → play_of pieces ≡ None
-play_of-opts pieces none = go (length (values_of (codes "rounds") pieces) == 0)
+opts_alone-opts : (pieces : List Piece) → opts_of pieces ≡ None → opts_alone pieces ≡ None
+opts_alone-opts pieces none = go (length (values_of (codes "rounds") pieces) == 0)
   where
-    go : (b : Bool) → cond b (option_map Play (opts_of pieces)) None ≡ None
-    go true = ap (option_map Play) none
+    go : (b : Bool) → cond b (opts_of pieces) None ≡ None
+    go true = none
     go false = refl
 
 -- `play` takes no number
-pub play_of-rounds : (pieces : List Piece) → 1 ≤ length (values_of (codes "rounds") pieces) → play_of pieces ≡ None
-play_of-rounds pieces some =
+pub opts_alone-rounds : (pieces : List Piece) → 1 ≤ length (values_of (codes "rounds") pieces) → opts_alone pieces ≡ None
+opts_alone-rounds pieces some =
     let test : (length (values_of (codes "rounds") pieces) == 0) ≡ false = ne_eqb _ _ (λ e. omega arith) in rw test refl
 
 drill_from-opts : (rounds : Option ℕ) (opts : Option Opts) → opts ≡ None → drill_from rounds opts ≡ None
@@ -259,12 +258,12 @@ some_value before piece after =
     rw (values_of-here before piece after) (omega (arith, all))
 
 -- with a wrong piece `play` asks for nothing
-pub wrong-play : (pieces : List Piece) → HasWrong false pieces → play_of pieces ≡ None
-wrong-play pieces h = ap play_of h.is ∙ elim (is_rounds h.piece.0 h.name) [
+pub wrong-play : (pieces : List Piece) → HasWrong false pieces → opts_alone pieces ≡ None
+wrong-play pieces h = ap opts_alone h.is ∙ elim (is_rounds h.piece.0 h.name) [
   | inl rounds ↦
-      play_of-rounds (h.before ++ h.piece ∷ h.after)
+      opts_alone-rounds (h.before ++ h.piece ∷ h.after)
       (subst (λ n. 1 ≤ length (values_of n (h.before ++ h.piece ∷ h.after))) rounds (some_value h.before h.piece h.after))
-  | inr other ↦ play_of-opts (h.before ++ h.piece ∷ h.after) (wrong-opts false h.before h.piece h.after h.name other h.wrong)
+  | inr other ↦ opts_alone-opts (h.before ++ h.piece ∷ h.after) (wrong-opts false h.before h.piece h.after h.name other h.wrong)
 ]
 
 -- nor does `drill`

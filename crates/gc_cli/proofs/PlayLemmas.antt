@@ -1,5 +1,5 @@
 -- One call after another, behind a history.
-use Rattle.std.proofs.Common.{◌≡◌, ◌∙◌, ◌≤◌, ℕ, zero, suc, Bool, true, false, Option, None, Some, map, sum_by, slice_index_or, List, [], ◌∷◌, ◌++◌, append_assoc, filter, length, length-append, take, refl, sym, ap, subst, arith}
+use Rattle.std.proofs.Common.{◌≡◌, ◌∙◌, ℕ, zero, suc, map, sum_by, List, [], ◌∷◌, ◌++◌, append_assoc, filter, length, length-append, take, refl, sym, ap, subst, arith}
 use Rattle.std.proofs.lemmas.List.{append-nil}
 use Rattle.std.proofs.lemmas.List.Sums.{sum_by_push}
 use Rattle.std.proofs.lemmas.List.Elements.{filter-append, filter_map-append}
@@ -15,7 +15,7 @@ use Rattle.gc_script.specs.Script.{Script}
 use Rattle.gc_solo.specs.Kept.{Kept}
 use Rattle.gc_solo.specs.Stands.{HasCalled, StandsFor, configuration_of}
 use Rattle.gc_cli.specs.declared.opts.Opts.{Opts}
-use Rattle.gc_cli.specs.Played.{HasMade, HasPlayed, IsHeapOf, IsHistoryOf, heap_for}
+use Rattle.gc_cli.specs.Played.{HasMade, HasPlayed, IsHeapOf, IsHistoryOf, IsInOrder, heap_for}
 
 -- no call was made
 pub made-none : (kept : Kept) (history : History) → StandsFor kept history → HasMade kept history [] []
@@ -122,13 +122,14 @@ played-ends mid new script replies history lines ends first same count last = re
 -- what a heap has played that stood for no entry is a history of the script, for which it stands
 pub played-history : (kept : Kept) (opts : Opts) (script : Script) (replies : List Reply) (more : History)
     → configuration_of kept ≡ heap_for opts script → HasPlayed kept script replies [] more
-    → IsHistoryOf opts script more × IsHeapOf kept (heap_for opts script) more × (replies ≡ replies_by_line more [] script.lines)
+    → IsHistoryOf opts script more × IsHeapOf kept (heap_for opts script) more × IsInOrder script more
+    × (replies ≡ replies_by_line more [] script.lines)
 played-history kept opts script replies more same played = (
   record {
     legal = subst (λ (heap : Configuration). IsLegal heap more) same played.stands.legal;
     fits = fits-in_order script.preamble.mutators script.lines more played.in_order played.collections;
-    in_order = played.in_order;
   },
   record { configuration_is = same; stands = played.stands },
+  played.in_order,
   played.replies_are ∙ sym (replies_by_line-front more script.lines (ends_of script.preamble.mutators) played.in_order),
 )

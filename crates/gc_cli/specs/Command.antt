@@ -4,7 +4,7 @@ use Rattle.std.specs.List.{before_first, after_first}
 use Rattle.std.specs.Str.{bytes_eq}
 use Rattle.gc_script.specs.Words.{numeral}
 use Rattle.gc_cli.specs.declared.command.Request.{Request}
-use Rattle.gc_cli.specs.declared.command.Request.TheVariants.{Play, Make, Drill}
+use Rattle.gc_cli.specs.declared.command.Request.TheVariants.{Play, Run, Make, Drill}
 use Rattle.gc_cli.specs.declared.opts.Opts.{Opts}
 use Rattle.gc_cli.specs.declared.status.Status.{Status}
 use Rattle.gc_cli.specs.declared.status.Status.TheVariants.{Done, Usage, Bad, Long, ReadFault, WriteFault, NoMemory}
@@ -94,9 +94,9 @@ opts_of pieces = opts_from
 abbrev pub rounds_of : List Piece → Option ℕ
 rounds_of pieces = number_given 1 100000 None (values_of (codes "rounds") pieces)
 
--- `play` and options, with no number
-abbrev pub play_of : List Piece → Option Request
-play_of pieces = if length (values_of (codes "rounds") pieces) == 0 then option_map Play (opts_of pieces) else None
+-- options, with no number
+abbrev pub opts_alone : List Piece → Option Opts
+opts_alone pieces = if length (values_of (codes "rounds") pieces) == 0 then opts_of pieces else None
 
 -- `make` and a number, with nothing else
 abbrev pub make_of : List (List ℕ) → Option Request
@@ -115,9 +115,10 @@ drill_of pieces = drill_from (rounds_of pieces) (opts_of pieces)
 unfoldable pub request_of : List (List ℕ) → Option Request
 request_of [] = None
 request_of (mode ∷ words) =
-    if bytes_eq mode (codes "play") then play_of (pieces_of words) else (
+    if bytes_eq mode (codes "play") then option_map Play (opts_alone (pieces_of words)) else (
+    if bytes_eq mode (codes "run") then option_map Run (opts_alone (pieces_of words)) else (
     if bytes_eq mode (codes "make") then make_of words else (
-    if bytes_eq mode (codes "drill") then drill_of (pieces_of words) else None))
+    if bytes_eq mode (codes "drill") then drill_of (pieces_of words) else None)))
 
 -- the word of a cause, by its number
 abbrev pub cause_text : ℕ → List ℕ

@@ -28,7 +28,7 @@ with_options app =
     with_rule (with_rule (with_rule (with_rule app (option_rule (codes "nursery") Set)) (option_rule (codes "pages") Set))
     (option_rule (codes "reports") SetTrue)) (option_rule (codes "summary") SetTrue)
 
--- the commands of the modes
+-- the commands of the modes: `run` takes what `play` takes
 abbrev pub play_app : App
 play_app = with_options (mode_app (codes "play"))
 

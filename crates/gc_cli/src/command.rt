@@ -4,7 +4,7 @@
 ghost use Rattle.std.specs.Prelude.{◌≡◌, ◌<◌, ◌≤◌, true, false, List, ◌∷◌, codes, IfOk, IfSome, map, string_bytes};
 ghost use Rattle.std.specs.List.{list_any};
 ghost use Rattle.clap.specs.Words.{app_of, is_simple_and_free, rule_of, with_rule};
-ghost use Rattle.gc_cli.specs.Command.{Piece, drill_of, make_of, number_within, opts_of, pieces_of, play_of, request_of, rounds_of};
+ghost use Rattle.gc_cli.specs.Command.{Piece, drill_of, make_of, number_within, opts_alone, opts_of, pieces_of, request_of, rounds_of};
 ghost use Rattle.gc_cli.specs.Commands.{Finds, HoldsOptions, HoldsValue, drill_app, is_dashes, make_app, mode_app, option_rule, play_app, rounds_rule, with_options};
 ghost use Rattle.gc_cli.specs.Played.{IsAllowed};
 
@@ -19,6 +19,8 @@ use std::alloc::{AllocError, Global};
 pub enum Request {
     /// Read a script and play it on one thread, by these options.
     Play(Opts),
+    /// Read a script and play it with a worker for each mutator, by these options.
+    Run(Opts),
     /// Write the generated script of so many rounds.
     Make(u32),
     /// Play the generated script of so many rounds, by these options.
@@ -52,17 +54,18 @@ fn mode_request(alloc: Global, mode: &str, words: &[String]) -> Result<Option<Re
     ensures { IfOk result (λ request. request ≡ request_of (mode.now ∷ map string_bytes words.now)) }
 {
     match mode {
-        "play" => play_request(alloc, words),
+        "play" => Ok(opts_alone(alloc, words)?.map(Request::Play)),
+        "run" => Ok(opts_alone(alloc, words)?.map(Request::Run)),
         "make" => make_request(alloc, words),
         "drill" => drill_request(alloc, words),
         _ => Ok(None),
     }
 }
 
-/// What `play` asks for with the words behind it.
-fn play_request(alloc: Global, words: &[String]) -> Result<Option<Request>, NoMemory>
+/// The options behind `play` or `run`, where there is nothing else.
+fn opts_alone(alloc: Global, words: &[String]) -> Result<Option<Opts>, NoMemory>
     requires { list_any is_dashes (map string_bytes words.now) ≡ false }
-    ensures { IfOk result (λ request. request ≡ play_of (pieces_of (map string_bytes words.now))) }
+    ensures { IfOk result (λ opts. opts ≡ opts_alone (pieces_of (map string_bytes words.now))) }
 {
     let Ok(command) = play_command(alloc) else {
         return Err(NoMemory);
@@ -70,7 +73,7 @@ fn play_request(alloc: Global, words: &[String]) -> Result<Option<Request>, NoMe
     let Some(matches) = matches_of(command, words)? else {
         return Ok(None);
     };
-    Ok(opts_of(&matches).map(Request::Play))
+    Ok(opts_of(&matches))
 }
 
 /// What `make` asks for with the words behind it.

@@ -1,5 +1,5 @@
-//! The modes of the program: a script that is read is played, a generated one is written, or is played. Each step but
-//! the last can end the whole with a status of its own.
+//! The modes of the program: a script that is read is played, by one thread or by a worker for each mutator; a generated
+//! one is written, or is played. Each step but the last can end the whole with a status of its own.
 
 ghost use Rattle.std.specs.Prelude.{◌≡◌, ◌≢◌, ◌<◌, ◌≤◌, ℕ, List, length, IfOk, IfErr, IsErrOf};
 ghost use Rattle.gc_io.specs.Faults.{HasRisen};
@@ -11,16 +11,19 @@ ghost use Rattle.gc_script.specs.Text.{most_bytes};
 ghost use Rattle.gc_script.specs.Script.{Script as Text};
 ghost use Rattle.gc_script.specs.Written.{written};
 ghost use Rattle.gc_cli.specs.Causes.{HasNoScript, Tells, IsOrNoMemory};
-ghost use Rattle.gc_cli.specs.Played.{AreAllowed, AreAllowedRounds, IsRead, IsTooLong, IsNoScript, BreaksOff, Plays, PlaysInPart, Prints, PrintsInPart, summarized};
+ghost use Rattle.gc_cli.specs.Played.{AreAllowed, AreAllowedRounds, IsRead, IsTooLong, IsNoScript, BreaksOff, IsPlayedByOne, IsPlayedByWorkers, Plays, PlaysInPart, Prints, PrintsInPart, summarized};
 
 use crate::input::{InputFault, read_input};
 use crate::opts::Opts;
 use crate::output::write_text;
 use crate::play::{Played, play};
+use crate::run::{Ran, run};
 use crate::status::{Left, Outcome, Status};
-use gc_io::{Put, Sink, Source};
+use gc_io::{Gate, Put, Sink, Source};
 use gc_script::{Script, ScriptFault, make_script, read_script, write_script};
 use std::alloc::Global;
+use std::sync::Wait;
+use std::thread::Threads;
 
 /// Reads a script, plays its lines in the order of the text, and then each mutator's End, and writes the replies
 /// by line number and, with `reports`, the reports of the collections behind them. It waits for nobody. A half of
@@ -37,7 +40,7 @@ pub fn play_bytes<S: Source, K: Sink>(
     // fits the script. The heap that is left stands for that history.
     ensures done { result.status ≡ Status.Done
         → ((bytes : List ℕ) × (script : Text) × (history : History) × Plays opts.now (S.rest src.old) (S.rest src.new)
-        (K.written out.old) (K.written out.new) result.left bytes script history) }
+        (K.written out.old) (K.written out.new) (IsPlayedByOne result.left) bytes script history) }
 
     // Each other status has its cause; want of memory is free.
     ensures no_usage { result.status ≢ Status.Usage }
@@ -50,7 +53,7 @@ pub fn play_bytes<S: Source, K: Sink>(
     ensures write_fault { result.status ≡ Status.WriteFault → HasRisen (K.faults out.old) (K.faults out.new) }
     ensures write_part { result.status ≡ Status.WriteFault
         → ((bytes : List ℕ) × (script : Text) × (history : History) × PlaysInPart opts.now (S.rest src.old) (S.rest src.new)
-        (K.written out.old) (K.written out.new) result.left bytes script history) }
+        (K.written out.old) (K.written out.new) (IsPlayedByOne result.left) bytes script history) }
 
     // What else was given is told: a text that is too long, the first fault of one that is no script; and a
     // script is played, where the sink counts no fault. Want of memory may stand in place of each.
@@ -77,6 +80,65 @@ pub fn play_bytes<S: Source, K: Sink>(
         Err(status) => return Outcome::nothing_left(status),
     };
     play_script(alloc, opts, &script, out)
+}
+
+/// Reads a script, plays it with a worker for each mutator, and writes what `play_bytes` writes. Each worker makes its
+/// mutator's lines in their order, each when the gate lets it pass, and then the End; the replies are written when all
+/// are done.
+pub(crate) fn run_bytes<R: Threads + Wait + Sync, S: Source, K: Sink, G: Gate + Sync>(
+    rt: &R,
+    alloc: Global,
+    opts: &Opts,
+    src: &mut S,
+    out: &mut K,
+    gate: &G,
+) -> Outcome
+    requires { AreAllowed opts.now }
+
+    // The source was read to its end, its bytes are a script, and the sink got the text of a legal history that
+    // fits the script. The journal that is left has that history.
+    ensures done { result.status ≡ Status.Done
+        → ((bytes : List ℕ) × (script : Text) × (history : History) × Plays opts.now (S.rest src.old) (S.rest src.new)
+        (K.written out.old) (K.written out.new) (IsPlayedByWorkers result.left) bytes script history) }
+
+    // Each other status has its cause; want of memory is free.
+    ensures no_usage { result.status ≢ Status.Usage }
+    ensures read_fault { result.status ≡ Status.ReadFault
+        → ((bytes : List ℕ) × BreaksOff (S.rest src.old) (S.rest src.new) (S.faults src.old) (S.faults src.new) bytes) }
+    ensures long { result.status ≡ Status.Long
+        → ((bytes : List ℕ) × IsTooLong (S.rest src.old) (S.rest src.new) bytes) }
+    ensures bad { (line cause : ℕ) → result.status ≡ Status.Bad line cause
+        → ((bytes : List ℕ) × IsNoScript (S.rest src.old) (S.rest src.new) bytes line cause) }
+    ensures write_fault { result.status ≡ Status.WriteFault → HasRisen (K.faults out.old) (K.faults out.new) }
+    ensures write_part { result.status ≡ Status.WriteFault
+        → ((bytes : List ℕ) × (script : Text) × (history : History) × PlaysInPart opts.now (S.rest src.old) (S.rest src.new)
+        (K.written out.old) (K.written out.new) (IsPlayedByWorkers result.left) bytes script history) }
+
+    // What else was given is told: a text that is too long, the first fault of one that is no script; and a
+    // script is played, where the sink counts no fault. Want of memory may stand in place of each.
+    ensures long_is_told { (bytes : List ℕ) → Tells (S.rest src.old) (S.faults src.old) (S.faults src.new) bytes
+        → most_bytes < length bytes → IsOrNoMemory Status.Long result.status }
+    ensures bad_is_told { (bytes : List ℕ) (line cause : ℕ) → Tells (S.rest src.old) (S.faults src.old) (S.faults src.new) bytes
+        → length bytes ≤ most_bytes → IsFirstFault bytes line cause → IsOrNoMemory (Status.Bad line cause) result.status }
+    ensures complete { (bytes : List ℕ) (script : Text) → Tells (S.rest src.old) (S.faults src.old) (S.faults src.new) bytes
+        → length bytes ≤ most_bytes → IsScript bytes script → ¬ HasRisen (K.faults out.old) (K.faults out.new)
+        → IsOrNoMemory Status.Done result.status }
+
+    // Each fault that was counted is told.
+    ensures src_quiet { result.status ≢ Status.ReadFault → S.faults src.new ≡ S.faults src.old }
+    ensures out_quiet { result.status ≢ Status.WriteFault → K.faults out.new ≡ K.faults out.old }
+
+    // Unless something was played and written, the sink is as before, and no heap is left.
+    ensures untouched { result.status ≢ Status.Done → result.status ≢ Status.WriteFault → out.new ≡ out.old }
+    ensures left { result.status ≢ Status.Done → result.status ≢ Status.WriteFault → result.left ≡ Left.Nothing }
+    ensures src_never_falls { S.faults src.old ≤ S.faults src.new }
+    ensures out_never_falls { K.faults out.old ≤ K.faults out.new }
+{
+    let script = match read_source(alloc, src) {
+        Ok(script) => script,
+        Err(status) => return Outcome::nothing_left(status),
+    };
+    run_script(rt, alloc, opts, script, out, gate)
 }
 
 /// Writes the generated script of so many rounds. It reads nothing, and no heap is left.
@@ -107,10 +169,10 @@ pub(crate) fn drill<K: Sink>(alloc: Global, rounds: u32, opts: &Opts, out: &mut 
     requires rounds { AreAllowedRounds rounds }
     requires opts { AreAllowed opts.now }
     ensures done { result.status ≡ Status.Done → ((history : History)
-        × Prints (summarized opts.now) (K.written out.old) (K.written out.new) result.left (generated rounds) history) }
+        × Prints (summarized opts.now) (K.written out.old) (K.written out.new) (IsPlayedByOne result.left) (generated rounds) history) }
     ensures write_fault { result.status ≡ Status.WriteFault → HasRisen (K.faults out.old) (K.faults out.new) }
     ensures write_part { result.status ≡ Status.WriteFault → ((history : History)
-        × PrintsInPart (summarized opts.now) (K.written out.old) (K.written out.new) result.left (generated rounds) history) }
+        × PrintsInPart (summarized opts.now) (K.written out.old) (K.written out.new) (IsPlayedByOne result.left) (generated rounds) history) }
     ensures no_other { result.status ≢ Status.Done → result.status ≢ Status.WriteFault → result.status ≡ Status.NoMemory }
     ensures out_quiet { result.status ≢ Status.WriteFault → K.faults out.new ≡ K.faults out.old }
     ensures untouched { result.status ≢ Status.Done → result.status ≢ Status.WriteFault → out.new ≡ out.old }
@@ -127,14 +189,14 @@ pub(crate) fn drill<K: Sink>(alloc: Global, rounds: u32, opts: &Opts, out: &mut 
     play_script(alloc, &opts, &script, out)
 }
 
-/// Plays a script, and writes what is to be printed of it.
+/// Plays a script on one thread, and writes what is to be printed of it.
 fn play_script<K: Sink>(alloc: Global, opts: &Opts, script: &Script, out: &mut K) -> Outcome
     requires { AreAllowed opts.now }
     ensures done { result.status ≡ Status.Done → ((history : History)
-        × Prints opts.now (K.written out.old) (K.written out.new) result.left script.now history) }
+        × Prints opts.now (K.written out.old) (K.written out.new) (IsPlayedByOne result.left) script.now history) }
     ensures write_fault { result.status ≡ Status.WriteFault → HasRisen (K.faults out.old) (K.faults out.new) }
     ensures write_part { result.status ≡ Status.WriteFault → ((history : History)
-        × PrintsInPart opts.now (K.written out.old) (K.written out.new) result.left script.now history) }
+        × PrintsInPart opts.now (K.written out.old) (K.written out.new) (IsPlayedByOne result.left) script.now history) }
     ensures no_other { result.status ≢ Status.Done → result.status ≢ Status.WriteFault → result.status ≡ Status.NoMemory }
     ensures out_quiet { result.status ≢ Status.WriteFault → K.faults out.new ≡ K.faults out.old }
     ensures untouched { result.status ≢ Status.Done → result.status ≢ Status.WriteFault → out.new ≡ out.old }
@@ -146,8 +208,44 @@ fn play_script<K: Sink>(alloc: Global, opts: &Opts, script: &Script, out: &mut K
     };
     let Played { solo, replies } = played;
     match write_text(opts, script, replies.as_slice(), solo.reports(), out) {
-        Put::All => Outcome::heap_left(Status::Done, solo),
-        Put::Failed => Outcome::heap_left(Status::WriteFault, solo),
+        Put::All => Outcome::solo_left(Status::Done, solo),
+        Put::Failed => Outcome::solo_left(Status::WriteFault, solo),
+    }
+}
+
+/// Plays a script with a worker for each mutator, and writes what is to be printed of it.
+fn run_script<R: Threads + Wait + Sync, K: Sink, G: Gate + Sync>(
+    rt: &R,
+    alloc: Global,
+    opts: &Opts,
+    script: Script,
+    out: &mut K,
+    gate: &G,
+) -> Outcome
+    requires { AreAllowed opts.now }
+    ensures done { result.status ≡ Status.Done → ((history : History)
+        × Prints opts.now (K.written out.old) (K.written out.new) (IsPlayedByWorkers result.left) script history) }
+    ensures write_fault { result.status ≡ Status.WriteFault → HasRisen (K.faults out.old) (K.faults out.new) }
+    ensures write_part { result.status ≡ Status.WriteFault → ((history : History)
+        × PrintsInPart opts.now (K.written out.old) (K.written out.new) (IsPlayedByWorkers result.left) script history) }
+    ensures no_other { result.status ≢ Status.Done → result.status ≢ Status.WriteFault → result.status ≡ Status.NoMemory }
+    ensures out_quiet { result.status ≢ Status.WriteFault → K.faults out.new ≡ K.faults out.old }
+    ensures untouched { result.status ≢ Status.Done → result.status ≢ Status.WriteFault → out.new ≡ out.old }
+    ensures left { result.status ≢ Status.Done → result.status ≢ Status.WriteFault → result.left ≡ Left.Nothing }
+    ensures out_never_falls { K.faults out.old ≤ K.faults out.new }
+{
+    let Ok(ran) = run(rt, alloc, opts, script, gate) else {
+        return Outcome::nothing_left(Status::NoMemory);
+    };
+    let Ran {
+        script,
+        journal,
+        replies,
+        reports,
+    } = ran;
+    match write_text(opts, &script, replies.as_slice(), reports.as_slice(), out) {
+        Put::All => Outcome::journal_left(Status::Done, journal),
+        Put::Failed => Outcome::journal_left(Status::WriteFault, journal),
     }
 }
 

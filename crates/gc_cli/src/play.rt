@@ -4,7 +4,7 @@ ghost use Rattle.gc_model.specs.History.{History, allowance_of, ends_of, replies
 ghost use Rattle.gc_model.specs.declared.call.Line.{Line as CallLine};
 ghost use Rattle.gc_solo.specs.Kept.{IsSameHeap};
 ghost use Rattle.gc_solo.specs.Stands.{HasCalled, StandsFor};
-ghost use Rattle.gc_cli.specs.Played.{AreAllowed, HasMade, HasPlayed, IsHeapOf, IsHistoryOf, heap_for};
+ghost use Rattle.gc_cli.specs.Played.{AreAllowed, HasMade, HasPlayed, IsHeapOf, IsHistoryOf, IsInOrder, heap_for};
 
 use crate::opts::Opts;
 use crate::replies::Replies;
@@ -26,6 +26,7 @@ pub(crate) fn play(alloc: Global, opts: &Opts, script: &Script) -> Result<Played
     requires { AreAllowed opts.now }
     ensures played { IfOk result (λ played. (history : History) × IsHistoryOf opts.now script.now history
         × IsHeapOf played.solo (heap_for opts.now script.now) history
+        × IsInOrder script.now history
         × (played.replies.list ≡ replies_by_line history [] script.now.lines)) }
     ensures answered { IfOk result (λ played. length played.replies.list ≡ length script.now.lines) }
 {
@@ -37,27 +38,16 @@ pub(crate) fn play(alloc: Global, opts: &Opts, script: &Script) -> Result<Played
 }
 
 /// How many collections the lines of a script may bring: two for each New, and one for each Collect.
-fn allowance(script: &Script) -> u32
+pub(crate) fn allowance(script: &Script) -> u32
     ensures { result ≡ sum_by (λ line. allowance_of line.call) script.now.lines }
 {
     let mut sum = 0;
     for index in 0..script.count() {
-        sum += line_allowance(script, index);
+        // Taken apart, since the prover has to be shown the type of the call here.
+        let Line { call, .. } = script.line(index).unwrap();
+        sum += call.allowance();
     }
     sum
-}
-
-/// How many collections a line of the script, counted from 0, may bring.
-fn line_allowance(script: &Script, index: usize) -> u32
-    requires { index < length script.now.lines }
-    ensures allowance { (line : CallLine) → slice_get script.now.lines index ≡ Some line → result ≡ allowance_of line.call }
-    ensures most { result ≤ 2 }
-{
-    match script.line(index).unwrap().call {
-        Call::New { .. } => 2,
-        Call::Collect => 1,
-        _ => 0,
-    }
 }
 
 /// Makes each line's call in the order of the text and appends its reply, and then makes the End of each mutator

@@ -7,6 +7,7 @@ ghost use Rattle.gc_cli.specs.Command.{code_of, status_line};
 
 use crate::text::status_line;
 use gc_io::Sink;
+use gc_locked::Journal;
 use gc_solo::Solo;
 
 /// How the program ended.
@@ -46,14 +47,17 @@ impl Status {
 }
 
 /// The heap on which the lines were really played: nothing where none were, or where their text wasn't written.
-#[derive(Debug, Drop)]
+#[derive(Drop)]
 pub enum Left {
     Nothing,
+    /// The heap of one thread.
     Solo(Solo),
+    /// The entries of the history that workers made on a heap of several threads.
+    Journal(Journal),
 }
 
 /// How the program ended, and the heap on which the lines were played.
-#[derive(Debug, Drop)]
+#[derive(Drop)]
 pub struct Outcome {
     pub status: Status,
     pub left: Left,
@@ -70,13 +74,23 @@ impl Outcome {
         }
     }
 
-    /// Ended so, with the heap on which the lines were played.
-    pub(crate) fn heap_left(status: Status, solo: Solo) -> Outcome
+    /// Ended so, with the heap on which one thread played the lines.
+    pub(crate) fn solo_left(status: Status, solo: Solo) -> Outcome
         ensures { result ≡ record { status = status; left = Left.Solo solo } }
     {
         Outcome {
             status,
             left: Left::Solo(solo),
+        }
+    }
+
+    /// Ended so, with the journal of the workers that played the lines.
+    pub(crate) fn journal_left(status: Status, journal: Journal) -> Outcome
+        ensures { result ≡ record { status = status; left = Left.Journal journal } }
+    {
+        Outcome {
+            status,
+            left: Left::Journal(journal),
         }
     }
 }

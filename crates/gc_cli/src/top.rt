@@ -8,31 +8,33 @@ ghost use Rattle.gc_script.specs.Text.{most_bytes};
 ghost use Rattle.gc_script.specs.Script.{Script as Text};
 ghost use Rattle.gc_cli.specs.Causes.{Tells, IsOrNoMemory};
 ghost use Rattle.gc_cli.specs.Command.{request_of, status_line};
-ghost use Rattle.gc_cli.specs.Played.{IsTooLong, IsNoScript, BreaksOff, HasDone, HasDoneInPart, IsAllowed, AsksNoScript};
+ghost use Rattle.gc_cli.specs.Played.{IsTooLong, IsNoScript, BreaksOff, HasDone, HasDoneInPart, IsAllowed, AsksScript, AsksNoScript};
 ghost use Rattle.gc_cli.specs.declared.opts.Opts.{Opts as PlayOpts};
 
 use crate::command::{Request, request_of};
-use crate::modes::{drill, make, play_bytes};
+use crate::modes::{drill, make, play_bytes, run_bytes};
 use crate::status::{Left, Outcome, Status, write_status};
 use gc_io::{Gate, Sink, Source};
 use gc_layout::NoMemory;
 use std::alloc::Global;
+use std::sync::Wait;
+use std::thread::Threads;
 
 /// The top call: all that the program does. `args` are the words after the program's name, `src` is its
-/// standard input, `out` its standard output and `err` its standard error. So far no command waits or asks
+/// standard input, `out` its standard output and `err` its standard error. `run` alone starts workers, waits, and asks
 /// the gate.
-pub fn moar_gc<R, S: Source, K: Sink, E: Sink, G: Gate + Sync>(
-    _rt: &R,
+pub fn moar_gc<R: Threads + Wait + Sync, S: Source, K: Sink, E: Sink, G: Gate + Sync>(
+    rt: &R,
     alloc: Global,
     args: &[String],
     src: &mut S,
     out: &mut K,
     err: &mut E,
-    _gate: &G,
+    gate: &G,
 ) -> Outcome
-    // What the words ask for was done. To play: the source was read to its end, its bytes are a script, and the sink
-    // got the text of a legal history that fits the script, by these options; the heap that is left stands for that
-    // history. To drill: so with a generated script, and its summary. To make: the sink got the generated script.
+    // What the words ask for was done. To play or run: the source was read to its end, its bytes are a script, and the
+    // sink got the text of a legal history that fits the script, by these options; the heap that is left stands for that
+    // history, or the journal has it. To drill: so with a generated script, and its summary. To make: the sink got the generated script.
     ensures done { result.status ≡ Status.Done → IfSome (request_of (map string_bytes args.now)) (λ request.
         HasDone request (S.rest src.old) (S.rest src.new) (K.written out.old) (K.written out.new) result.left) }
 
@@ -55,15 +57,13 @@ pub fn moar_gc<R, S: Source, K: Sink, E: Sink, G: Gate + Sync>(
     // is no script; and a script is played, or generated, where the sink counts no fault. Want of memory may stand in
     // place of each.
     ensures usage_is_told { request_of (map string_bytes args.now) ≡ None → IsOrNoMemory Status.Usage result.status }
-    ensures long_is_told { (opts : PlayOpts) (bytes : List ℕ) → request_of (map string_bytes args.now) ≡ Some (Request.Play opts)
+    ensures long_is_told { (bytes : List ℕ) → AsksScript (map string_bytes args.now)
         → Tells (S.rest src.old) (S.faults src.old) (S.faults src.new) bytes
         → most_bytes < length bytes → IsOrNoMemory Status.Long result.status }
-    ensures bad_is_told { (opts : PlayOpts) (bytes : List ℕ) (line cause : ℕ)
-        → request_of (map string_bytes args.now) ≡ Some (Request.Play opts)
+    ensures bad_is_told { (bytes : List ℕ) (line cause : ℕ) → AsksScript (map string_bytes args.now)
         → Tells (S.rest src.old) (S.faults src.old) (S.faults src.new) bytes
         → length bytes ≤ most_bytes → IsFirstFault bytes line cause → IsOrNoMemory (Status.Bad line cause) result.status }
-    ensures complete { (opts : PlayOpts) (bytes : List ℕ) (script : Text)
-        → request_of (map string_bytes args.now) ≡ Some (Request.Play opts)
+    ensures complete { (bytes : List ℕ) (script : Text) → AsksScript (map string_bytes args.now)
         → Tells (S.rest src.old) (S.faults src.old) (S.faults src.new) bytes
         → length bytes ≤ most_bytes → IsScript bytes script → ¬ HasRisen (K.faults out.old) (K.faults out.new)
         → IsOrNoMemory Status.Done result.status }
@@ -94,6 +94,7 @@ pub fn moar_gc<R, S: Source, K: Sink, E: Sink, G: Gate + Sync>(
 {
     let outcome = match request_of(alloc, args) {
         Ok(Some(Request::Play(opts))) => play_bytes(alloc, &opts, src, out),
+        Ok(Some(Request::Run(opts))) => run_bytes(rt, alloc, &opts, src, out, gate),
         Ok(Some(Request::Make(rounds))) => make(alloc, rounds, out),
         Ok(Some(Request::Drill(rounds, opts))) => drill(alloc, rounds, &opts, out),
         Ok(None) => Outcome::nothing_left(Status::Usage),

@@ -23,6 +23,8 @@ use std::alloc::{AllocError, Global};
 use std::env;
 use std::io::{self, BufWriter, ErrorKind, Write};
 use std::process::ExitCode;
+use std::sync::Wait;
+use std::thread::Threads;
 
 /// How many bytes of the output are gathered before they are written.
 const BUFFER: usize = 65_536;
@@ -48,8 +50,8 @@ fn words(rt: &HostRuntime) -> Result<Vec<String>, Status>
 }
 
 /// All of the program but its exit status. Where there are no words it ends with what refused them.
-fn run<S: Source, W: Write + Drop, E: Sink>(
-    rt: &HostRuntime,
+fn run<R: AllocGlobal + Threads + Wait + Sync, S: Source, W: Write + Drop, E: Sink>(
+    rt: &R,
     words: Result<Vec<String>, Status>,
     src: &mut S,
     stdout: W,
@@ -102,8 +104,8 @@ fn refused<E: Sink>(status: Status, err: &mut E) -> Status
 }
 
 /// Calls the top call, and then flushes the output. A last flush that fails is a write fault.
-fn play_and_flush<S: Source, W: Write + Drop, E: Sink>(
-    rt: &HostRuntime,
+fn play_and_flush<R: AllocGlobal + Threads + Wait + Sync, S: Source, W: Write + Drop, E: Sink>(
+    rt: &R,
     words: &[String],
     src: &mut S,
     out: &mut StdSink<W>,

@@ -25,4 +25,4 @@ returns-clause-played c =
     ∙ ap asked c.mutators.ensures.mutators in
     let (more, played) = c.play_lines.ensures.played [] made.stands in
     let history = played-history c.play_lines.new.solo opts script c.play_lines.new.replies.list more same played in
-    (more, history.0, history.1, history.2)
+    (more, history.0, history.1, history.2, history.3)

@@ -1,10 +1,9 @@
--- what the command of `play` finds and refuses is what the words ask for
-use Rattle.std.proofs.Common.{rules, ◌≡◌, map, string_bytes, option_map, subst, sym, ap, ◌∙◌}
-use Rattle.gc_cli.specs.declared.command.Request.TheVariants.{Play}
+-- what the command of `play` finds and refuses are the options that the words give
+use Rattle.std.proofs.Common.{map, string_bytes, subst, sym, ◌∙◌}
 use Rattle.gc_cli.specs.Command.{pieces_of}
 use Rattle.gc_cli.specs.Commands.{Finds, play_app}
 use Rattle.gc_cli.proofs.FindLemmas.{play-finds, play-refuses}
-use Rattle.gc_cli.proofs.command.play_request.Goals as goal
+use Rattle.gc_cli.proofs.command.opts_alone.Goals as goal
 
 pub returns-in_default-2 : goal.returns-in_default-2
 returns-in_default-2 c =
@@ -17,5 +16,4 @@ returns c =
     let words = map string_bytes c.args.words.now in
     let found = subst (λ app. Finds app words c.in_ok-matches.field-0) c.in-Ok.ensures c.in_ok-matches.ensures in
     let holds = play-finds words c.in-Some.matches c.requires (subst (Finds play_app words) c.in-Some.is found) in
-    let mapped : c.map.result ≡ option_map Play c.opts_of.result = search rules in
-    mapped ∙ ap (option_map Play) (c.opts_of.ensures (pieces_of words) holds.0) ∙ sym holds.1
+    c.opts_of.ensures (pieces_of words) holds.0 ∙ sym holds.1
