@@ -4,7 +4,9 @@ use crate::row::Row;
 use std::alloc::{AllocError, Global};
 use std::fmt::Write;
 use std::process::Abort;
+use std::sync::Wait;
 use std::test::Fail;
+use std::thread::Threads;
 
 /// Calls that are made so many times one behind another, each with its reply.
 pub type Calls<'a> = (u32, &'a [(&'a str, &'a str)]);
@@ -21,7 +23,10 @@ pub struct Built<'a> {
 
 impl<'a> Built<'a> {
     /// Plays the script, and compares what comes of it.
-    pub fn check<R: Abort + AllocGlobal>(&self, rt: &R) -> Result<(), Fail> {
+    pub fn check<R: Abort + AllocGlobal + Threads + Wait + Sync>(
+        &self,
+        rt: &R,
+    ) -> Result<(), Fail> {
         let (script, output) = self.script_and_output(rt.alloc())?;
         let row = Row::plays(self.name, script.as_str(), output.as_str());
         row.with_words(self.words).check(rt)

@@ -4,7 +4,7 @@
 use crate::row::{ONE_BOX, Row};
 use crate::run_in_memory;
 use gc_cli::Status;
-use gc_io::{MemorySink, MemorySource};
+use gc_io::{MemorySink, MemorySource, OpenGate};
 use std::test::Fail;
 
 /// The generated script of one round.
@@ -84,6 +84,15 @@ fn command_lines_are_refused(rt: HostRuntime) -> Result<(), Fail> {
         &["play", "--pages=1", "--pages=1"],
         &["play", "--rounds", "1"],
         &["play", "1"],
+        &["run", "1"],
+        &["run", "run"],
+        &["run", "play"],
+        &["run", "--"],
+        &["run", "--help"],
+        &["run", "--nursery=63"],
+        &["run", "--pages", "129"],
+        &["run", "--reports", "--reports"],
+        &["Run"],
         &["make"],
         &["make", ""],
         &["make", "0"],
@@ -240,7 +249,15 @@ fn what_is_made_is_played_as_it_is_drilled(rt: HostRuntime) -> Result<(), Fail> 
     let mut src = MemorySource::make(Vec::new(alloc), 1, vec![in alloc; 1]?);
     let mut out = MemorySink::make(alloc, 65_536, Vec::new(alloc))?;
     let mut err = MemorySink::make(alloc, 256, Vec::new(alloc))?;
-    let made = run_in_memory(&rt, alloc, words.as_slice(), &mut src, &mut out, &mut err);
+    let made = run_in_memory(
+        &rt,
+        alloc,
+        words.as_slice(),
+        &mut src,
+        &mut out,
+        &mut err,
+        &OpenGate,
+    );
     assert_eq!(&rt; made.status, Status::Done);
 
     let mut words = Vec::new(alloc);
@@ -256,6 +273,7 @@ fn what_is_made_is_played_as_it_is_drilled(rt: HostRuntime) -> Result<(), Fail> 
         &mut src,
         &mut played,
         &mut err,
+        &OpenGate,
     );
     assert_eq!(&rt; outcome.status, Status::Done);
     assert!(&rt; played.bytes() == SIXTY_FOUR_ROUNDS_PLAYED.as_bytes());

@@ -11,7 +11,9 @@ use gc_io::{MemorySink, MemorySource, OpenGate, Put};
 use gc_model::RunReport;
 use std::alloc::{AllocError, Global};
 use std::process::Abort;
+use std::sync::Wait;
 use std::test::Fail;
+use std::thread::Threads;
 
 /// The most bytes that a call of the source gives; the script has 72.
 const STEPS: [usize; 6] = [8, 15, 36, 71, 72, 65_536];
@@ -131,7 +133,7 @@ impl<'a> Trial<'a> {
     }
 
     /// Hands it to the top call.
-    fn run<R: Abort + AllocGlobal>(&self, rt: &R) -> Result<Ended, Fail> {
+    fn run<R: Abort + AllocGlobal + Threads + Wait + Sync>(&self, rt: &R) -> Result<Ended, Fail> {
         let alloc = rt.alloc();
         let mut words = Vec::new(alloc);
         for word in self.words {
@@ -213,7 +215,11 @@ fn pieces_until(alloc: Global, text: &str, failing: u32) -> Result<String, Alloc
 
 /// Plays a box from a source that gives so many bytes a call, where these calls fail. The first of them that comes
 /// ends it, and the source isn't asked after it or after its end.
-fn check_reads<R: Abort + AllocGlobal>(rt: &R, step: usize, reads: Calls) -> Result<(), Fail>
+fn check_reads<R: Abort + AllocGlobal + Threads + Wait + Sync>(
+    rt: &R,
+    step: usize,
+    reads: Calls,
+) -> Result<(), Fail>
     requires { 0 < step }
 {
     let calls = calls_of(ONE_BOX, step);
@@ -329,7 +335,7 @@ fn the_line_of_a_status_is_one_piece(rt: HostRuntime) -> Result<(), Fail> {
 }
 
 /// The line of a status as it is put: once, and not tried again where that fails.
-fn check_status_line<R: Abort + AllocGlobal>(
+fn check_status_line<R: Abort + AllocGlobal + Threads + Wait + Sync>(
     rt: &R,
     status: Status,
     line: &str,
@@ -405,7 +411,10 @@ fn each_reply_of_a_long_script_is_one_piece(rt: HostRuntime) -> Result<(), Fail>
 }
 
 /// Writes the reports to a sink whose calls with these numbers fail.
-fn check_reports<R: Abort + AllocGlobal>(rt: &R, writes: Calls) -> Result<(), Fail> {
+fn check_reports<R: Abort + AllocGlobal + Threads + Wait + Sync>(
+    rt: &R,
+    writes: Calls,
+) -> Result<(), Fail> {
     let alloc = rt.alloc();
     let mut out = sink(alloc, writes)?;
     let put = write_reports(&REPORTS, &mut out);

@@ -2,7 +2,8 @@
 //! source and sinks in memory.
 //!
 //! A row is data: a name that says what it shows, the script, the words, the output, the line on standard
-//! error and the status, and where wanted the calls of the source and of the output that fail. All values
+//! error and the status, and where wanted the calls of the source and of the output that fail, or the lines that a gate
+//! holds back. All values
 //! are worked out by hand from the rules. A row is added by adding its data to the table in the tests. In
 //! memory all bytes are told, so the theorem of the top call speaks of them plainly.
 #![tactic(auto)]
@@ -37,3 +38,5 @@ mod sizes;
 mod steps;
 #[cfg(test)]
 mod tests;
+#[cfg(test)]
+mod workers;

@@ -10,32 +10,40 @@ ghost use Rattle.gc_script.specs.Text.{most_bytes};
 ghost use Rattle.gc_script.specs.Written.{written};
 ghost use Rattle.gc_cli.specs.Causes.{IsOrNoMemory};
 ghost use Rattle.gc_cli.specs.Command.{request_of, status_line};
-ghost use Rattle.gc_cli.specs.Played.{AsksNoScript, IsAllowed, IsHistoryOf, LeavesHeap, heap_for, summarized};
+ghost use Rattle.gc_cli.specs.Played.{AsksNoScript, AsksScript, IsAllowed, IsHistoryOf, IsPlayedByOne, IsPlayedByWorkers, summarized};
 ghost use Rattle.gc_cli.specs.Text.{text_of};
-ghost use Rattle.gc_cli.specs.declared.command.Request.TheVariants.{Drill, Make, Play};
+ghost use Rattle.gc_cli.specs.declared.command.Request.TheVariants.{Drill, Make, Play, Run};
 ghost use Rattle.gc_cli.specs.declared.opts.Opts.{Opts};
 
 use gc_cli::{Left, Outcome, Status, moar_gc};
-use gc_io::{MemorySink, MemorySource, OpenGate};
+use gc_io::{Gate, MemorySink, MemorySource};
 use std::alloc::Global;
+use std::sync::Wait;
+use std::thread::Threads;
 
-/// The top call over a source and sinks in memory.
-pub fn run_in_memory<R>(
+/// The top call over a source and sinks in memory, with a gate.
+pub fn run_in_memory<R: Threads + Wait + Sync, G: Gate + Sync>(
     rt: &R,
     alloc: Global,
     words: &[String],
     src: &mut MemorySource,
     out: &mut MemorySink,
     err: &mut MemorySink,
+    gate: &G,
 ) -> Outcome
     // Where it is done and the words ask for a script to be played, all that the source had is a script, and the output
     // has got the text of a legal history that fits it, by these options. The heap that is left stands for that history.
     ensures played { (opts : Opts) → request_of (map string_bytes words.now) ≡ Some (Play opts) → result.status ≡ Status.Done
         → ((script : Script) × (history : History) × IsScript src.old.rest script
-        × IsHistoryOf opts script history × LeavesHeap result.left (heap_for opts script) history
+        × IsHistoryOf opts script history × IsPlayedByOne result.left opts script history
         × (out.new.written ≡ out.old.written ++ text_of opts script history)) }
-    ensures played_reads_all { (opts : Opts) → request_of (map string_bytes words.now) ≡ Some (Play opts)
-        → result.status ≡ Status.Done → src.new.rest ≡ [] }
+    ensures reads_all { AsksScript (map string_bytes words.now) → result.status ≡ Status.Done → src.new.rest ≡ [] }
+
+    // Where they ask for it to be run, the journal that is left has the history.
+    ensures ran { (opts : Opts) → request_of (map string_bytes words.now) ≡ Some (Run opts) → result.status ≡ Status.Done
+        → ((script : Script) × (history : History) × IsScript src.old.rest script
+        × IsHistoryOf opts script history × IsPlayedByWorkers result.left opts script history
+        × (out.new.written ≡ out.old.written ++ text_of opts script history)) }
 
     // Where they ask for a generated script, it was written, or it was played and its summary written.
     ensures made { (rounds : ℕ) → request_of (map string_bytes words.now) ≡ Some (Make rounds) → result.status ≡ Status.Done
@@ -45,7 +53,7 @@ pub fn run_in_memory<R>(
     ensures drilled { (rounds : ℕ) (opts : Opts) → request_of (map string_bytes words.now) ≡ Some (Drill rounds opts)
         → result.status ≡ Status.Done
         → ((history : History) × IsHistoryOf (summarized opts) (generated rounds) history
-        × LeavesHeap result.left (heap_for opts (generated rounds)) history
+        × IsPlayedByOne result.left (summarized opts) (generated rounds) history
         × (out.new.written ≡ out.old.written ++ text_of (summarized opts) (generated rounds) history)) }
 
     // The words ask for nothing beyond the limits.
@@ -61,7 +69,7 @@ pub fn run_in_memory<R>(
     ensures bad { (line cause : ℕ) → result.status ≡ Status.Bad line cause
         → IsFirstFault src.old.rest line cause }
     ensures bad_reads_all { (line cause : ℕ) → result.status ≡ Status.Bad line cause → src.new.rest ≡ [] }
-    ensures bad_is_told { (opts : Opts) (line cause : ℕ) → request_of (map string_bytes words.now) ≡ Some (Play opts)
+    ensures bad_is_told { (line cause : ℕ) → AsksScript (map string_bytes words.now)
         → ¬ HasRisen src.old.faults src.new.faults → length src.old.rest ≤ most_bytes
         → IsFirstFault src.old.rest line cause → IsOrNoMemory (Status.Bad line cause) result.status }
 
@@ -69,7 +77,7 @@ pub fn run_in_memory<R>(
     ensures long { result.status ≡ Status.Long → most_bytes < length src.old.rest }
     ensures long_stops { result.status ≡ Status.Long
         → ((bytes : List ℕ) × (length bytes ≡ most_bytes + 1) × (src.old.rest ≡ bytes ++ src.new.rest)) }
-    ensures long_is_told { (opts : Opts) → request_of (map string_bytes words.now) ≡ Some (Play opts)
+    ensures long_is_told { AsksScript (map string_bytes words.now)
         → ¬ HasRisen src.old.faults src.new.faults → most_bytes < length src.old.rest
         → IsOrNoMemory Status.Long result.status }
 
@@ -83,21 +91,26 @@ pub fn run_in_memory<R>(
     ensures write_part { (opts : Opts) → request_of (map string_bytes words.now) ≡ Some (Play opts)
         → result.status ≡ Status.WriteFault
         → ((script : Script) × (history : History) × (count : ℕ) × IsScript src.old.rest script
-        × IsHistoryOf opts script history × LeavesHeap result.left (heap_for opts script) history
+        × IsHistoryOf opts script history × IsPlayedByOne result.left opts script history
         × (out.new.written ≡ out.old.written ++ take count (text_of opts script history))) }
-    ensures write_fault_reads_all { (opts : Opts) → request_of (map string_bytes words.now) ≡ Some (Play opts)
-        → result.status ≡ Status.WriteFault → src.new.rest ≡ [] }
+    ensures run_part { (opts : Opts) → request_of (map string_bytes words.now) ≡ Some (Run opts)
+        → result.status ≡ Status.WriteFault
+        → ((script : Script) × (history : History) × (count : ℕ) × IsScript src.old.rest script
+        × IsHistoryOf opts script history × IsPlayedByWorkers result.left opts script history
+        × (out.new.written ≡ out.old.written ++ take count (text_of opts script history))) }
+    ensures write_fault_reads_all { AsksScript (map string_bytes words.now) → result.status ≡ Status.WriteFault
+        → src.new.rest ≡ [] }
     ensures make_part { (rounds : ℕ) → request_of (map string_bytes words.now) ≡ Some (Make rounds)
         → result.status ≡ Status.WriteFault
         → ((count : ℕ) × (out.new.written ≡ out.old.written ++ take count (written (generated rounds)))) }
     ensures drill_part { (rounds : ℕ) (opts : Opts) → request_of (map string_bytes words.now) ≡ Some (Drill rounds opts)
         → result.status ≡ Status.WriteFault
         → ((history : History) × (count : ℕ) × IsHistoryOf (summarized opts) (generated rounds) history
-        × LeavesHeap result.left (heap_for opts (generated rounds)) history
+        × IsPlayedByOne result.left (summarized opts) (generated rounds) history
         × (out.new.written ≡ out.old.written ++ take count (text_of (summarized opts) (generated rounds) history))) }
 
     // A script is played where no fault is counted, and a generated one is written or played; or memory is wanting.
-    ensures complete { (opts : Opts) (script : Script) → request_of (map string_bytes words.now) ≡ Some (Play opts)
+    ensures complete { (script : Script) → AsksScript (map string_bytes words.now)
         → ¬ HasRisen src.old.faults src.new.faults → length src.old.rest ≤ most_bytes
         → IsScript src.old.rest script → ¬ HasRisen out.old.faults out.new.faults
         → IsOrNoMemory Status.Done result.status }
@@ -120,5 +133,5 @@ pub fn run_in_memory<R>(
     ensures out_never_falls { out.old.faults ≤ out.new.faults }
     ensures err_never_falls { err.old.faults ≤ err.new.faults }
 {
-    moar_gc(rt, alloc, words, src, out, err, &OpenGate)
+    moar_gc(rt, alloc, words, src, out, err, gate)
 }

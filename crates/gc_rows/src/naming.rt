@@ -3,7 +3,9 @@
 
 use crate::row::{ONE_PAGE, Row, TWO_PAGES};
 use std::process::Abort;
+use std::sync::Wait;
 use std::test::Fail;
+use std::thread::Threads;
 
 /// An object of 62 slots, which names itself and two boxes.
 const SLOTS: &str = "moar-gc 1\n\
@@ -101,7 +103,11 @@ const SLOTS_REPLIES: &str = "6 done\n\
      48 no\n";
 
 /// Plays the script of the object of 62 slots with so many pages.
-fn check_slots<R: Abort + AllocGlobal>(rt: &R, pages: &str, reports: &str) -> Result<(), Fail> {
+fn check_slots<R: Abort + AllocGlobal + Threads + Wait + Sync>(
+    rt: &R,
+    pages: &str,
+    reports: &str,
+) -> Result<(), Fail> {
     let output = format!(in rt.alloc(); "{SLOTS_REPLIES}{reports}")?;
     Row::plays("62 slots", SLOTS, output.as_str())
         .with_words(&["play", "--nursery", "128", "--pages", pages, "--reports"])

@@ -5,11 +5,13 @@
 use crate::row::{ONE_BOX, ONE_BOX_OUTPUT, Row};
 use crate::run_in_memory;
 use gc_cli::Status;
-use gc_io::{MemorySink, MemorySource};
+use gc_io::{MemorySink, MemorySource, OpenGate};
 use std::alloc::{AllocError, Global};
 use std::fmt::Write;
 use std::process::Abort;
+use std::sync::Wait;
 use std::test::Fail;
+use std::thread::Threads;
 
 #[test]
 fn options_are_refused(rt: HostRuntime) -> Result<(), Fail> {
@@ -159,7 +161,7 @@ impl Room {
     }
 
     /// Plays a script with the words, and compares what it prints.
-    fn check<R: Abort + AllocGlobal>(
+    fn check<R: Abort + AllocGlobal + Threads + Wait + Sync>(
         &self,
         rt: &R,
         script: &str,
@@ -173,7 +175,15 @@ impl Room {
         let mut src = MemorySource::make(script.as_bytes().to_vec(alloc)?, 4096, Vec::new(alloc));
         let mut out = MemorySink::make(alloc, 4_194_304, Vec::new(alloc))?;
         let mut err = MemorySink::make(alloc, 64, Vec::new(alloc))?;
-        let outcome = run_in_memory(rt, alloc, words.as_slice(), &mut src, &mut out, &mut err);
+        let outcome = run_in_memory(
+            rt,
+            alloc,
+            words.as_slice(),
+            &mut src,
+            &mut out,
+            &mut err,
+            &OpenGate,
+        );
         assert_eq!(rt; outcome.status, Status::Done, "with {:?}", self.words);
         assert!(rt; out.bytes() == output.as_bytes(), "with {:?}", self.words);
         Ok(())
@@ -181,7 +191,10 @@ impl Room {
 
     /// The words ask for reports, and a half has room for so many objects: they bring no collection, and the next
     /// one brings the first.
-    fn check_half<R: Abort + AllocGlobal>(&self, rt: &R) -> Result<(), Fail> {
+    fn check_half<R: Abort + AllocGlobal + Threads + Wait + Sync>(
+        &self,
+        rt: &R,
+    ) -> Result<(), Fail> {
         let (mut script, mut output) = dropped_pairs(rt.alloc(), self.objects)?;
         self.check(rt, script.as_str(), output.as_str())?;
         script.push_str("0 new r0 pair\n")?;
@@ -194,7 +207,10 @@ impl Room {
     }
 
     /// The words ask for no reports, and the heap has room for so many objects that are all needed, and no more.
-    fn check_heap<R: Abort + AllocGlobal>(&self, rt: &R) -> Result<(), Fail> {
+    fn check_heap<R: Abort + AllocGlobal + Threads + Wait + Sync>(
+        &self,
+        rt: &R,
+    ) -> Result<(), Fail> {
         let (mut script, mut output) = chained_pairs(rt.alloc(), self.objects)?;
         script.push_str("0 new r1 pair\n")?;
         let last = self.objects.saturating_mul(3).saturating_add(4);

@@ -122,7 +122,7 @@ fn scripts_are_refused(rt: HostRuntime) -> Result<(), Fail> {
 fn words_are_refused(rt: HostRuntime) -> Result<(), Fail> {
     for row in [
         Row::misuses("no words", &[], ONE_BOX),
-        Row::misuses("an unknown word", &["run"], ONE_BOX),
+        Row::misuses("an unknown word", &["runs"], ONE_BOX),
         Row::misuses("an empty word", &[""], ONE_BOX),
         Row::misuses("a word more", &["play", "play"], ONE_BOX),
         Row::misuses("a mode in capitals", &["Play"], ONE_BOX),

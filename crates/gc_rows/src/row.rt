@@ -1,12 +1,15 @@
 //! Worked rows as data, and what hands them to the top call.
 
+ghost use Rattle.std.specs.Prelude.{◌≤◌, length};
 ghost use Rattle.gc_cli.specs.Played.{AreAllowed};
 
 use crate::run_in_memory;
 use gc_cli::{Opts, Status, play_bytes};
-use gc_io::{MemorySink, MemorySource, SteadySource};
+use gc_io::{Gate, Hold, HoldGate, MeetGate, MemorySink, MemorySource, OpenGate, SteadySource};
 use std::process::Abort;
+use std::sync::Wait;
 use std::test::Fail;
+use std::thread::Threads;
 
 /// The most bytes that a script prints here.
 const MOST_PRINTED: usize = 4_194_304;
@@ -26,6 +29,18 @@ pub const ONE_BOX_OUTPUT: &str = "4 done\n\
 
 /// The words of most rows.
 const PLAY: &[&str] = &["play"];
+
+/// The words for a worker for each mutator.
+pub const RUN: &[&str] = &["run"];
+
+/// The words for the same, with reports.
+pub const RUN_REPORTS: &[&str] = &["run", "--reports"];
+
+/// So often a line that is held is asked for in vain, at most.
+const MOST_REFUSALS: u32 = 100_000_000;
+
+/// So often a line turns until those come that it meets, at most.
+const MOST_TURNS: u32 = 1_000_000_000;
 
 /// The words for the least heap.
 const PLAY_SMALL: &[&str] = &["play", "--nursery", "64", "--pages", "1"];
@@ -50,6 +65,8 @@ pub struct Row<'a> {
     /// The calls of the source that fail, counted from 1.
     failing_reads: &'a [u32],
     output: &'a str,
+    /// What may be printed as well, where that depends on the schedule.
+    other: Option<&'a str>,
     error: &'a str,
     status: u8,
 }
@@ -64,6 +81,7 @@ impl<'a> Row<'a> {
             step: 65_536,
             failing_reads: &[],
             output,
+            other: None,
             error: "",
             status: 0,
         }
@@ -98,6 +116,19 @@ impl<'a> Row<'a> {
         }
     }
 
+    /// A script that is run by a worker for each mutator to its end.
+    pub fn runs(name: &'a str, script: &'a str, output: &'a str) -> Row<'a> {
+        Row::plays(name, script, output).with_words(RUN)
+    }
+
+    /// The same script, which in another schedule prints this.
+    pub fn or_prints(self, other: &'a str) -> Row<'a> {
+        Row {
+            other: Some(other),
+            ..self
+        }
+    }
+
     /// The same script with these words.
     pub fn with_words(self, words: &'a [&'a str]) -> Row<'a> {
         Row { words, ..self }
@@ -108,14 +139,62 @@ impl<'a> Row<'a> {
         Row { step, ..self }
     }
 
-    /// Checks the row, and then the same on the least heap, which its objects fit.
-    pub fn check_small_too<R: Abort + AllocGlobal>(&self, rt: &R) -> Result<(), Fail> {
+    /// Checks the row, and then the same on the least heap, which its objects fit, and where there is one mutator with a
+    /// worker for it.
+    pub fn check_small_too<R: Abort + AllocGlobal + Threads + Wait + Sync>(
+        &self,
+        rt: &R,
+    ) -> Result<(), Fail> {
         self.check(rt)?;
-        self.with_words(PLAY_SMALL).check(rt)
+        self.with_words(PLAY_SMALL).check(rt)?;
+        if self.script.contains("\nmutators 1\n") {
+            self.with_words(RUN).check(rt)?;
+        }
+        Ok(())
     }
 
-    /// Hands the row to the top call, and compares what comes of it.
-    pub fn check<R: Abort + AllocGlobal>(&self, rt: &R) -> Result<(), Fail> {
+    /// Checks the row with a gate that holds lines until others were answered, at most 32 holds, and that didn't give up.
+    pub fn check_held<R: Abort + AllocGlobal + Threads + Wait + Sync>(
+        &self,
+        rt: &R,
+        holds: &[Hold],
+    ) -> Result<(), Fail>
+        requires { length holds.now ≤ 32 }
+    {
+        let gate = HoldGate::make(rt.alloc(), holds, MOST_REFUSALS)?;
+        self.check_with(rt, &gate)?;
+        assert!(rt; !gate.gave_up(), "the gate of {}", self.name);
+        Ok(())
+    }
+
+    /// Checks the row with a gate at which lines meet, at most 32 holds, and that didn't give up.
+    pub fn check_meeting<R: Abort + AllocGlobal + Threads + Wait + Sync>(
+        &self,
+        rt: &R,
+        holds: &[Hold],
+    ) -> Result<(), Fail>
+        requires { length holds.now ≤ 32 }
+    {
+        let gate = MeetGate::make(rt.alloc(), holds, MOST_TURNS)?;
+        self.check_with(rt, &gate)?;
+        assert!(rt; !gate.gave_up(), "the gate of {}", self.name);
+        Ok(())
+    }
+
+    /// Checks the row with a gate that holds nothing.
+    pub fn check<R: Abort + AllocGlobal + Threads + Wait + Sync>(
+        &self,
+        rt: &R,
+    ) -> Result<(), Fail> {
+        self.check_with(rt, &OpenGate)
+    }
+
+    /// Hands the row to the top call with this gate, and compares what comes of it.
+    fn check_with<R: Abort + AllocGlobal + Threads + Wait + Sync, G: Gate + Sync>(
+        &self,
+        rt: &R,
+        gate: &G,
+    ) -> Result<(), Fail> {
         let alloc = rt.alloc();
         let mut words = Vec::new(alloc);
         for word in self.words {
@@ -126,19 +205,32 @@ impl<'a> Row<'a> {
         let mut src = MemorySource::make(script, self.step, self.failing_reads.to_vec(alloc)?);
         let mut out = MemorySink::make(alloc, MOST_PRINTED, Vec::new(alloc))?;
         let mut err = MemorySink::make(alloc, 256, Vec::new(alloc))?;
-        let outcome = run_in_memory(rt, alloc, words.as_slice(), &mut src, &mut out, &mut err);
+        let outcome = run_in_memory(
+            rt,
+            alloc,
+            words.as_slice(),
+            &mut src,
+            &mut out,
+            &mut err,
+            gate,
+        );
         let code = outcome.status.code();
         assert_eq!(rt; code, self.status, "the status of {}", self.name);
-        assert_eq!(rt;
-            out.bytes(),
-            self.output.as_bytes(),
-            "the output of {}",
-            self.name
-        );
         assert_eq!(rt;
             err.bytes(),
             self.error.as_bytes(),
             "the error of {}",
+            self.name
+        );
+        if let Some(other) = self.other
+            && out.bytes() == other.as_bytes()
+        {
+            return Ok(());
+        }
+        assert_eq!(rt;
+            out.bytes(),
+            self.output.as_bytes(),
+            "the output of {}",
             self.name
         );
         Ok(())

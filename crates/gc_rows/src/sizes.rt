@@ -6,11 +6,13 @@ ghost use Rattle.gc_cli.specs.Played.{AreAllowed};
 use crate::row::printed;
 use crate::run_in_memory;
 use gc_cli::{Opts, Status};
-use gc_io::{MemorySink, MemorySource};
+use gc_io::{MemorySink, MemorySource, OpenGate};
 use std::alloc::{AllocError, Global};
 use std::fmt::Write;
 use std::process::Abort;
+use std::sync::Wait;
 use std::test::Fail;
+use std::thread::Threads;
 
 /// The most bytes of a script.
 const MOST_BYTES: usize = 16_777_216;
@@ -278,7 +280,10 @@ fn a_full_half_is_told(rt: HostRuntime) -> Result<(), Fail> {
 }
 
 /// The text of so many bytes, which is no script: the status it ends with, and its line.
-fn refused<R: Abort + AllocGlobal>(rt: &R, count: usize) -> Result<(Status, MemorySink), Fail> {
+fn refused<R: Abort + AllocGlobal + Threads + Wait + Sync>(
+    rt: &R,
+    count: usize,
+) -> Result<(Status, MemorySink), Fail> {
     let alloc = rt.alloc();
     let mut words = Vec::new(alloc);
     words.push("play".to_string(alloc)?)?;
@@ -286,7 +291,15 @@ fn refused<R: Abort + AllocGlobal>(rt: &R, count: usize) -> Result<(Status, Memo
     let mut src = MemorySource::make(text, 100_000, Vec::new(alloc));
     let mut out = MemorySink::make(alloc, 64, Vec::new(alloc))?;
     let mut err = MemorySink::make(alloc, 64, Vec::new(alloc))?;
-    let outcome = run_in_memory(rt, alloc, words.as_slice(), &mut src, &mut out, &mut err);
+    let outcome = run_in_memory(
+        rt,
+        alloc,
+        words.as_slice(),
+        &mut src,
+        &mut out,
+        &mut err,
+        &OpenGate,
+    );
     assert_eq!(rt; out.bytes().len(), 0);
     Ok((outcome.status, err))
 }
@@ -352,7 +365,15 @@ fn each_number_of_lines_is_played_and_a_fault_behind_them_is_told(
         let mut src = MemorySource::make(text, 100, Vec::new(alloc));
         let mut out = MemorySink::make(alloc, 64, Vec::new(alloc))?;
         let mut err = MemorySink::make(alloc, 64, Vec::new(alloc))?;
-        let outcome = run_in_memory(&rt, alloc, words.as_slice(), &mut src, &mut out, &mut err);
+        let outcome = run_in_memory(
+            &rt,
+            alloc,
+            words.as_slice(),
+            &mut src,
+            &mut out,
+            &mut err,
+            &OpenGate,
+        );
         let line = lines.saturating_add(3);
         assert_eq!(rt; outcome.status, Status::Bad { line, cause: 6 });
     }

@@ -8,7 +8,9 @@
 use crate::built::{Built, Calls};
 use crate::row::{THREE_PAGES, TWO_PAGES};
 use std::process::Abort;
+use std::sync::Wait;
 use std::test::Fail;
+use std::thread::Threads;
 
 /// The words for halves of 64 words and eight pages, with reports.
 const EIGHT_PAGES: &[&str] = &["play", "--nursery", "64", "--pages", "8", "--reports"];
@@ -149,7 +151,7 @@ const NODES_AND_MATES: &str =
     "moar-gc 1\nmutators 1\ntype node 1 1\ntype mate 0 4\ntype big 0 52\n";
 
 /// Plays calls that bring four collections, of which the third is full where that is due, and no other.
-fn check_third<R: Abort + AllocGlobal>(
+fn check_third<R: Abort + AllocGlobal + Threads + Wait + Sync>(
     rt: &R,
     head: &str,
     calls: &[Calls],
