@@ -1,5 +1,5 @@
 -- The heap stands for its journal after a call, with report places and memory for the calls that are left.
-use Rattle.std.proofs.Common.{◌≡◌, ◌≢◌, ◌∙◌, ℕ, suc, ◌+◌, ◌*◌, ◌<◌, ◌≤◌, ◌==◌, Bool, true, false, if◌then◌else◌, None, Some, List, [], ◌∷◌, ◌++◌, drop, length, length-append, map, slice_get, sum_by, take, refl, sym, ap, ap₂, subst, arith, eqb-true, eq-eqb, ne_eqb}
+use Rattle.std.proofs.Common.{◌≡◌, ◌≢◌, ◌∙◌, ℕ, suc, ◌+◌, ◌*◌, ◌<◌, ◌≤◌, ◌==◌, Bool, true, false, if◌then◌else◌, None, Some, List, [], ◌∷◌, ◌++◌, drop, length, length-append, map, slice_get, set, sum_by, take, refl, sym, ap, ap₂, subst, arith, eqb-true, eq-eqb, ne_eqb}
 use Rattle.std.proofs.lemmas.Bool.{true≢false}
 use Rattle.std.proofs.lemmas.List.{append-nil, length-map}
 use Rattle.std.proofs.lemmas.List.Elements.{filter_map-append}
@@ -17,8 +17,11 @@ use Rattle.gc_solo.specs.Stands.{HasCalled, StandsFor}
 use Rattle.gc_locked.specs.declared.setup.Setup.{Setup}
 use Rattle.gc_locked.specs.Guarded.{GuardedHeap, StandsForItsJournal, asks_again, calls_left, entries_of, weight_left}
 use Rattle.gc_locked.specs.Locked.{AreFit}
-use Rattle.gc_locked.specs.Setup.{allowance_of_lines, count_of, entries_by, heap_of, lines_of, mutators_of, plan_of}
+use Rattle.gc_locked.specs.Order.{IsKept, journal_of}
+use Rattle.gc_locked.specs.Setup.{allowance_of_lines, call_at, count_of, entries_by, heap_of, lines_of, mutators_of, places_of, plan_of}
 use Rattle.gc_locked.proofs.Lists.{drop-next, take-next}
+use Rattle.gc_locked.proofs.Order.{journal-more, kept-more, order_with}
+use Rattle.gc_locked.proofs.Places.{place-plan}
 use Rattle.gc_locked.proofs.Plans.{plans-weight, sum_below-changed, sum_below-part}
 use Rattle.gc_locked.proofs.Vain.{stands-vain}
 
@@ -216,22 +219,82 @@ stands-again old heap t call reply stands again called room =
       places = room.places ∙ stands.places;
     }
 
--- the call is the mutator's next
-pub record IsNext (guarded : GuardedHeap) (t : ℕ) (call : Call) : Type 0 where
+-- ---- the journal as it is kept
+
+-- the call at this place is the mutator's next
+pub record IsNext (guarded : GuardedHeap) (t place : ℕ) (call : Call) : Type 0 where
   pub there : t < mutators_of guarded.setup
-  pub next : slice_get (plan_of (lines_of guarded.setup) t) (count_of t guarded.journal) ≡ Some call
+  pub next : slice_get (places_of (lines_of guarded.setup) t) (count_of t guarded.journal) ≡ Some place
+  pub call_is : call ≡ call_at (lines_of guarded.setup) place
 
 -- what is seen of a heap is true of it
-pub next-of : (own seen : GuardedHeap) (t : ℕ) (call : Call) → own ≡ seen → IsNext seen t call → IsNext own t call
-next-of own seen t call same is = subst (λ (each : GuardedHeap). IsNext each t call) (sym same) is
+pub next-of : (own seen : GuardedHeap) (t place : ℕ) (call : Call) → own ≡ seen → IsNext seen t place call → IsNext own t place call
+next-of own seen t place call same is = subst (λ (each : GuardedHeap). IsNext each t place call) (sym same) is
 
--- what stands behind the reports that were there
-reports-behind : (before runs : List RunReport) → drop (length before) (before ++ runs) ≡ runs
-reports-behind [] runs = refl
-reports-behind (report ∷ before) runs = reports-behind before runs
+-- so it is the next one of the mutator's plan
+pub next-planned : (guarded : GuardedHeap) (t place : ℕ) (call : Call) → IsNext guarded t place call
+    → slice_get (plan_of (lines_of guarded.setup) t) (count_of t guarded.journal) ≡ Some call
+next-planned guarded t place call is =
+    place-plan (lines_of guarded.setup) t (count_of t guarded.journal) place is.next ∙ ap Some (sym is.call_is)
 
--- the reports that a call brought are those behind the ones that were seen before it
-pub reports-new : (old new before now part runs : List RunReport) → before ≡ old → now ≡ new → new ≡ old ++ runs
-    → part ≡ drop (length before) now → part ≡ runs
-reports-new old new before now part runs seen after grown rest =
-    rest ∙ ap₂ (λ (front all : List RunReport). drop (length front) all) seen (after ∙ grown) ∙ reports-behind old runs
+-- a heap with its journal, which is kept by places
+abbrev pub kept_as : Kept → Setup → List Reply → List ℕ → ℕ → GuardedHeap
+kept_as heap setup replies order capacity = record {
+  heap = heap;
+  journal = journal_of (lines_of setup) replies heap.reports order;
+  capacity = capacity;
+  setup = setup;
+}
+
+-- the heap stands for the journal, which is well kept
+pub record StandsKept (heap : Kept) (setup : Setup) (replies : List Reply) (order : List ℕ) (capacity : ℕ) : Type 0 where
+  pub stands : StandsForItsJournal (kept_as heap setup replies order capacity)
+  pub kept : IsKept (mutators_of setup) (lines_of setup) replies heap.reports order
+
+-- so it is where an Await is to be asked again
+pub kept-again : (old new : Kept) (setup : Setup) (replies : List Reply) (order : List ℕ) (capacity t : ℕ) (call : Call) (reply : Reply)
+    → StandsKept old setup replies order capacity → asks_again call reply ≡ true
+    → HasCalled old new (journal_of (lines_of setup) replies old.reports order) t call reply → KeepsRoom old new call
+    → StandsKept new setup replies order capacity × (new.reports ≡ old.reports)
+kept-again old new setup replies order capacity t call reply own again called room =
+    let lines = lines_of setup in
+    let same = (stands-vain old new (journal_of lines replies old.reports order) t call reply again called).1 in (
+      record {
+        stands =
+            subst (λ (reports : List RunReport). StandsForItsJournal
+            (record { heap = new; journal = journal_of lines replies reports order; capacity = capacity; setup = setup })) (sym same)
+            (stands-again (kept_as old setup replies order capacity) new t call reply own.stands again called room);
+        kept = subst (λ (reports : List RunReport). IsKept (mutators_of setup) lines replies reports order) (sym same) own.kept;
+      },
+      same,
+    )
+
+-- and where the call enters: the journal has its entries more
+pub kept-entered : (old new : Kept) (setup : Setup) (replies : List Reply) (order : List ℕ) (capacity t place : ℕ) (call : Call)
+    (reply : Reply) → StandsKept old setup replies order capacity → IsNext (kept_as old setup replies order capacity) t place call
+    → (called : HasCalled old new (journal_of (lines_of setup) replies old.reports order) t call reply) → KeepsRoom old new call
+    → (items : List ℕ) (more : ℕ) → items ≡ order_with order (length replies + length old.reports) (length called.runs) place
+    → more ≡ capacity
+    → StandsKept new setup (set replies place reply) items more
+    × (journal_of (lines_of setup) (set replies place reply) new.reports items
+    ≡ journal_of (lines_of setup) replies old.reports order ++ entries_of called.runs t call reply)
+kept-entered old new setup replies order capacity t place call reply own is called room items more grown same =
+    let lines = lines_of setup in
+    let guarded = kept_as old setup replies order capacity in
+    let all : journal_of lines (set replies place reply) new.reports items
+    ≡ journal_of lines replies old.reports order ++ entries_of called.runs t call reply =
+    ap₂ (λ (reports : List RunReport) (places : List ℕ). journal_of lines (set replies place reply) reports places) called.reports grown
+    ∙ journal-more (mutators_of setup) t place lines replies old.reports called.runs order reply own.kept is.there is.next
+    ∙ ap (λ (each : Call). journal_of lines replies old.reports order ++ entries_of called.runs t each reply) (sym is.call_is) in (
+      record {
+        stands = stands-entered guarded new (journal_of lines (set replies place reply) new.reports items) more t call reply own.stands
+            is.there (next-planned guarded t place call is) called room all same;
+        kept =
+            subst (λ (reports : List RunReport). IsKept (mutators_of setup) lines (set replies place reply) reports items)
+            (sym called.reports)
+            (subst (λ (places : List ℕ). IsKept (mutators_of setup) lines (set replies place reply) (old.reports ++ called.runs) places)
+            (sym grown)
+            (kept-more (mutators_of setup) t place lines replies old.reports called.runs order reply own.kept is.there is.next));
+      },
+      all,
+    )

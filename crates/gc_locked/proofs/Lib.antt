@@ -1,5 +1,7 @@
 pub mod Entered
+pub mod Handed
 pub mod Lists
+pub mod Order
 pub mod Passes
 pub mod Places
 pub mod Plans

@@ -1,7 +1,6 @@
 -- Passes: how they are dealt, and what they carry together.
-use Rattle.std.proofs.Common.{◌≡◌, ℕ, zero, suc, ◌+◌, ◌<◌, ◌≤◌, ◌==◌, ◌∙◌, ◌||◌, Bool, true, false, cond, List, [], ◌∷◌, ◌++◌, All, Option, Some, filter, get_or, length, length-append, map, slice_get, take, refl, sym, ap, ap₂, subst, arith, eqb-true}
+use Rattle.std.proofs.Common.{◌≡◌, ℕ, zero, suc, ◌+◌, ◌<◌, ◌≤◌, ◌==◌, ◌∙◌, ◌||◌, Bool, true, false, cond, List, [], ◌∷◌, ◌++◌, All, Some, filter, get_or, length, map, slice_get, take, refl, sym, ap, ap₂, subst, arith, eqb-true}
 use Rattle.std.proofs.lemmas.Bool.{true≢false}
-use Rattle.std.proofs.Math.ListN.{get_or-map}
 use Rattle.std.proofs.lemmas.List.Elements.{All-cons, All-head, All-nil, All-push, All-tail}
 use Rattle.std.proofs.lemmas.List.Sums.{sum_by-cons}
 use Rattle.std.specs.List.{list_any}
@@ -15,15 +14,18 @@ use Rattle.gc_model.specs.declared.entry.RunReport.{RunReport}
 use Rattle.gc_model.specs.Answer.{IsFit, Suits}
 use Rattle.gc_model.specs.History.{Configuration, History, calls_in, calls_of, is_collection, is_line_of}
 use Rattle.gc_model.proofs.Lists.{All-unmap}
-use Rattle.gc_solo.specs.Kept.{IsSameHeap, Kept}
+use Rattle.gc_solo.specs.Kept.{IsSameHeap}
 use Rattle.gc_solo.specs.Reports.{reports_of}
+use Rattle.gc_solo.specs.Stands.{configuration_of}
 use Rattle.gc_locked.specs.declared.setup.Setup.{Setup}
 use Rattle.gc_locked.specs.declared.view.Carried.{Carried}
 use Rattle.gc_locked.specs.Guarded.{GuardedHeap, StandsForItsJournal}
+use Rattle.gc_locked.specs.Journal.{Entries}
 use Rattle.gc_locked.specs.Locked.{AreAllPasses, AreFit, ArePassesFrom, IsFinished, IsPassOf, LockedHeap, PassView, number_of}
 use Rattle.gc_locked.specs.Rule.{IsNumberIn, numbers_from, times_in}
-use Rattle.gc_locked.specs.Setup.{allowance_of_lines, call_at, count_of, heap_of, lines_of, mutators_of, plan_of}
+use Rattle.gc_locked.specs.Setup.{allowance_of_lines, count_of, heap_of, lines_of, mutators_of, places_of, plan_of}
 use Rattle.gc_locked.proofs.Lists.{all-read, read-here, read-mapped}
+use Rattle.gc_locked.proofs.Places.{places-count}
 use Rattle.gc_locked.proofs.Views.{is_number_of, own-number}
 
 -- where a number is left, it is the next mutator's, and the others are behind it
@@ -73,43 +75,32 @@ collections-reports (Made t call reply ∷ journal) = collections-reports journa
 collections-reports (Run report ∷ journal) = ap suc (collections-reports journal)
 
 -- a heap that stands for its journal, and whose journal has as many calls as the passes say, is what is handed back
-pub finished : (locked : LockedHeap) (passes : List PassView) (guarded : GuardedHeap) (lines : Option (List Line))
-    → guarded.setup ≡ locked.setup → StandsForItsJournal guarded
-    → All (IsNumberIn locked.setup guarded.journal) (map (own_number locked.setup) passes)
-    → IsFinished locked passes (record { entries = guarded.journal; heap = guarded.heap; lines = lines })
-finished locked passes guarded lines same stands numbers =
-    let heap = heap_of locked.setup in
+pub finished : (locked : LockedHeap) (passes : List PassView) (guarded : GuardedHeap) (journal : Entries) → guarded.setup ≡ locked.setup
+    → StandsForItsJournal guarded → All (IsNumberIn locked.setup guarded.journal) (map (own_number locked.setup) passes)
+    → journal.entries ≡ guarded.journal → journal.heap ≡ guarded.heap → IsFinished locked passes journal
+finished locked passes guarded journal same stands numbers entries_are heap_is =
     let kept = subst (λ (setup : Setup). IsSameHeap (heap_of setup) guarded.heap) same stands.same in
     let calls = subst (λ (setup : Setup). (t : ℕ) → t < mutators_of setup
     → calls_of t guarded.journal ≡ take (count_of t guarded.journal) (plan_of (lines_of setup) t)) same stands.calls in
     let laid_out : List Shape → Layout → Configuration = λ types layout.
     record { types = types; mutators = layout.mutators; nursery = layout.nursery; pages = layout.pages } in
     record {
-      configuration_is = ap₂ laid_out kept.types kept.layout;
+      configuration_is = ap configuration_of heap_is ∙ ap₂ laid_out kept.types kept.layout;
       calls = λ k d there.
           let own = All-unmap (IsNumberIn locked.setup guarded.journal) (own_number locked.setup) passes numbers k d there in
           let pass = get_or passes k d in
-          calls pass.mutator own.there ∙ ap (λ n. take n (plan_of (lines_of locked.setup) pass.mutator)) (sym own.counted);
+          ap (calls_of pass.mutator) entries_are ∙ calls pass.mutator own.there
+          ∙ ap (λ n. take n (plan_of (lines_of locked.setup) pass.mutator)) (sym own.counted);
       collections =
           omega (
             arith,
+            ap (λ (entries : History). length (filter is_collection entries)) entries_are,
             collections-reports guarded.journal,
             ap (λ (each : List RunReport). length each) stands.stands.reports,
             stands.places,
             ap (λ (setup : Setup). allowance_of_lines (lines_of setup)) same,
           );
     }
-
--- the same, where the journal and the heap are other names of these
-pub finished-as : (locked : LockedHeap) (passes : List PassView) (guarded : GuardedHeap) (lines : Option (List Line))
-    → guarded.setup ≡ locked.setup → StandsForItsJournal guarded
-    → All (IsNumberIn locked.setup guarded.journal) (map (own_number locked.setup) passes)
-    → (entries : History) (heap : Kept) → entries ≡ guarded.journal → heap ≡ guarded.heap
-    → IsFinished locked passes (record { entries = entries; heap = heap; lines = lines })
-finished-as locked passes guarded lines same stands numbers entries heap entries_are heap_is =
-    subst (λ (each : History). IsFinished locked passes (record { entries = each; heap = heap; lines = lines })) (sym entries_are)
-    (subst (λ (each : Kept). IsFinished locked passes (record { entries = guarded.journal; heap = each; lines = lines })) (sym heap_is)
-    (finished locked passes guarded lines same stands numbers))
 
 -- where there is a mutator, there is a pass
 pub passes-some : (locked : LockedHeap) (passes : List PassView) → AreAllPasses locked passes → 0 < mutators_of locked.setup
@@ -140,24 +131,15 @@ plan-suits types mutators t lines made call fit at =
     all-read (Suits (length types)) (plan_of lines t) made call
     (All-push (Suits (length types)) (calls_in t lines) End (calls-suit types mutators t lines fit) tt) at
 
--- the next call of a mutator, as it is read from the plans
-pub planned : {V : Type 0} (items : V → List Call) (plans : List V) (lines : List Line) (t made : ℕ) (own : V) (call : Call)
-    → slice_get (map items plans) t ≡ Some (plan_of lines t) → own ≡ get_or plans t own → made ≤ length (calls_in t lines)
-    → call ≡ get_or (items own) made call → slice_get (plan_of lines t) made ≡ Some call
-planned items plans lines t made own call at is left read =
-    let plan : items own ≡ plan_of lines t = read-mapped items plans t (plan_of lines t) own at is in
-    read-here (plan_of lines t) made call (omega (arith, left, length-append (calls_in t lines) (End ∷ [])))
-    (read ∙ ap (λ (calls : List Call). get_or calls made call) plan)
-
--- and as it is read from the lines, at the place that stands in the plan
-pub planned-at : {V : Type 0} (items : V → List ℕ) (plans : List V) (kept lines : List Line) (t made : ℕ) (own : V) (place : ℕ)
-    (call : Call) → slice_get (map (λ plan. map (call_at kept) (items plan)) plans) t ≡ Some (plan_of lines t)
-    → own ≡ get_or plans t own → made ≤ length (calls_in t lines) → place ≡ get_or (items own) made place → call ≡ call_at kept place
-    → slice_get (plan_of lines t) made ≡ Some call
-planned-at items plans kept lines t made own place call at is left read value =
-    planned (λ plan. map (call_at kept) (items plan)) plans lines t made own call at is left
-    (value ∙ ap (call_at kept) read ∙ sym (get_or-map (call_at kept) (items own) made place)
-    ∙ ap (λ (other : Call). get_or (map (call_at kept) (items own)) made other) (sym value))
+-- the place of a mutator's next call, as it is read from the plans
+pub placed-at : {V : Type 0} (items : V → List ℕ) (plans : List V) (lines : List Line) (t made : ℕ) (own : V) (place : ℕ)
+    → slice_get (map items plans) t ≡ Some (places_of lines t) → own ≡ get_or plans t own → made ≤ length (calls_in t lines)
+    → place ≡ get_or (items own) made place → slice_get (places_of lines t) made ≡ Some place
+placed-at items plans lines t made own place at is left read =
+    let plan : items own ≡ places_of lines t = read-mapped items plans t (places_of lines t) own at is in
+    read-here (places_of lines t) made place
+    (omega (arith, left, places-count lines t))
+    (read ∙ ap (λ (places : List ℕ). get_or places made place) plan)
 
 -- two setups of the same heap and the same lines are one
 pub setup-same : (one other : Setup) → one.heap.value ≡ other.heap.value → one.lines.value ≡ other.lines.value → one ≡ other

@@ -5,7 +5,7 @@ use Rattle.atomic_table.proofs.send_lease.SendLease.TheSendSync as lease
 use Rattle.atomic_table.proofs.shared.Seat.TheSendSync as seat
 use Rattle.atomic_table.proofs.shared.Shared.TheSendSync as shared
 use Rattle.gc_model.specs.contracts.call.Call as Call
-use Rattle.gc_model.specs.contracts.entry.Entry as Entry
+use Rattle.gc_model.specs.contracts.reply.Reply as Reply
 use Rattle.gc_solo.specs.contracts.heap.Heap as Heap
 use Rattle.gc_solo.specs.contracts.solo.Solo as Solo
 use Rattle.gc_locked.specs.contracts.guarded.Guarded as Guarded
@@ -13,8 +13,8 @@ use Rattle.gc_locked.specs.contracts.locked.Locked as Locked
 use Rattle.gc_locked.specs.contracts.pass.Pass as Pass
 use Rattle.gc_locked.specs.contracts.setup.Setup as Setup
 
-entry_send : IsSend Entry.the_field.row
-entry_send = search sendable depth 40 fits 5000
+reply_send : IsSend Reply.the_field.row
+reply_send = search sendable depth 40 fits 5000
 
 heap_send : IsSend Heap.the_field.row
 heap_send = search (sendable, crosses) depth 40 fits 5000
@@ -26,7 +26,7 @@ setup_send : IsSend Setup.the_field.row
 setup_send = search (sendable, crosses) depth 20
 
 guarded_send : IsSend Guarded.the_field.row
-guarded_send = let solo = solo_send in let entry = entry_send in let setup = setup_send in search (sendable, crosses) depth 20
+guarded_send = let solo = solo_send in let reply = reply_send in let setup = setup_send in search (sendable, crosses) depth 20
 
 pub pass_send : IsSend Pass.the_field.row
 pass_send = let guarded = guarded_send in search (sendable, seat.the_send) depth 20

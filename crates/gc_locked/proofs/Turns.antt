@@ -12,7 +12,7 @@ use Rattle.gc_locked.specs.declared.view.View.{View}
 use Rattle.gc_locked.specs.Guarded.{GuardedHeap, IsEntered}
 use Rattle.gc_locked.specs.Locked.{LockedHeap, PassView, number_of}
 use Rattle.gc_locked.specs.Rule.{HasClaimed, IsNumberIn, IsRelease, IsRuled, claims, free_view, releases}
-use Rattle.gc_locked.specs.Setup.{count_of, lines_of, plan_of}
+use Rattle.gc_locked.specs.Setup.{count_of, lines_of, places_of}
 use Rattle.gc_locked.specs.Turns.{HasMadeOn, HoldsFor, counted_to}
 use Rattle.gc_locked.proofs.Entered.{count-other, count-own}
 use Rattle.gc_locked.proofs.Steps.{claim-allowed, locked_view, release-allowed}
@@ -60,13 +60,13 @@ claimed number before after rests has =
 -- ---- the call
 
 -- the heap is one for the mutator's next call
-pub holds-for : (setup : Setup) (t made : ℕ) (call : Call) (me : Seated) → IsHeld (number_of setup t made) me
-    → slice_get (plan_of (lines_of setup) t) made ≡ Some call → HoldsFor setup t call me.1
-holds-for setup t made call me held next = record {
+pub holds-for : (setup : Setup) (t made place : ℕ) (me : Seated) → IsHeld (number_of setup t made) me
+    → slice_get (places_of (lines_of setup) t) made ≡ Some place → HoldsFor setup t place me.1
+holds-for setup t made place me held next = record {
   guarded = held.guarded;
   held_is = ap (λ (each : Seated). each.1) held.me_is;
   setup_is = held.setup_is;
-  next = subst (λ n. slice_get (plan_of (lines_of setup) t) n ≡ Some call) held.counted next;
+  next = subst (λ n. slice_get (places_of (lines_of setup) t) n ≡ Some place) held.counted next;
 }
 
 -- the seat has the lock and holds the heap on which the call was made

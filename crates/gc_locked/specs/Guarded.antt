@@ -12,6 +12,7 @@ use Rattle.gc_solo.specs.Kept.{IsSameHeap, Kept}
 use Rattle.gc_solo.specs.Stands.{StandsFor}
 use Rattle.gc_locked.specs.declared.guarded.Guarded.TheInside.{Inside}
 use Rattle.gc_locked.specs.declared.setup.Setup.{Setup}
+use Rattle.gc_locked.specs.Order.{IsKept, journal_of}
 use Rattle.gc_locked.specs.Setup.{allowance_of_lines, count_of, entries_by, heap_of, lines_of, mutators_of, plan_of, sum_below}
 
 -- the heap, the journal, for how many entries it has memory, and what both were made for
@@ -23,8 +24,12 @@ pub record GuardedHeap : Type 0 where
 
 -- what the fields stand for
 abbrev pub guarded_of : Inside → GuardedHeap
-guarded_of guarded =
-    record { heap = guarded.solo; journal = guarded.journal.items; capacity = vec_capacity guarded.journal; setup = guarded.setup }
+guarded_of guarded = record {
+  heap = guarded.solo;
+  journal = journal_of (lines_of guarded.setup) guarded.replies.items guarded.solo.reports guarded.order.items;
+  capacity = vec_capacity guarded.order;
+  setup = guarded.setup;
+}
 
 -- the calls of a mutator that a history doesn't have yet
 abbrev pub calls_left : List Line → History → ℕ → List Call
@@ -44,6 +49,13 @@ pub record StandsForItsJournal (guarded : GuardedHeap) : Type 0 where
   pub reports : weight_left allowance_of guarded.setup guarded.journal ≤ guarded.heap.room
   pub memory : length guarded.journal + weight_left entries_by guarded.setup guarded.journal ≤ guarded.capacity
   pub places : length guarded.heap.reports + guarded.heap.room ≡ allowance_of_lines (lines_of guarded.setup)
+
+-- that is so, the journal is kept by places, and these are few enough to be counted
+pub record IsGuarded (guarded : Inside) : Type 0 where
+  pub heap : StandsForItsJournal (guarded_of guarded)
+  pub kept : IsKept (mutators_of guarded.setup) (lines_of guarded.setup) guarded.replies.items guarded.solo.reports guarded.order.items
+  pub few_mutators : mutators_of guarded.setup < 256
+  pub few : length guarded.replies.items + allowance_of_lines (lines_of guarded.setup) < 4294967296
 
 -- the entries of a call: the collections that it brought, and the call with its reply
 abbrev pub entries_of : List RunReport → ℕ → Call → Reply → History

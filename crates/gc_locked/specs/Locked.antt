@@ -13,7 +13,7 @@ use Rattle.gc_locked.specs.declared.setup.Setup.{Setup}
 use Rattle.gc_locked.specs.declared.view.Carried.{Carried}
 use Rattle.gc_locked.specs.Journal.{Entries}
 use Rattle.gc_locked.specs.Rule.{free_view}
-use Rattle.gc_locked.specs.Setup.{allowance_of_lines, call_at, heap_of, lines_of, mutators_of, plan_of}
+use Rattle.gc_locked.specs.Setup.{allowance_of_lines, heap_of, lines_of, mutators_of, places_of, plan_of}
 
 -- which table it is, and what it was made for
 pub record LockedHeap : Type 0 where
@@ -33,7 +33,7 @@ abbrev pub AreFit : List Shape → ℕ → List Line → Type 0
 AreFit types mutators lines = All (λ line. IsFit types mutators line.mutator line.call) lines
 
 -- the table has one word and one place; there is a mutator; the lines are kept, are fit and not too many; and of each mutator it is
--- known at which places among them its plan stands
+-- known at which places its calls stand
 pub record IsLocked (locked : inside.Inside) : Type 0 where
   pub words : locked.table.shared.table_id.words ≡ 1
   pub slots : locked.table.shared.table_id.slots ≡ 1
@@ -42,8 +42,7 @@ pub record IsLocked (locked : inside.Inside) : Type 0 where
   pub few : length (lines_of locked.table.shared.key) ≤ 16777216
   pub kept : locked.lines.items ≡ lines_of locked.table.shared.key
   pub plans : (t : ℕ) → t < mutators_of locked.table.shared.key
-      → slice_get (map (λ plan. map (call_at locked.lines.items) plan.items) locked.plans.items) t
-      ≡ Some (plan_of (lines_of locked.table.shared.key) t)
+      → slice_get (map (λ plan. plan.items) locked.plans.items) t ≡ Some (places_of (lines_of locked.table.shared.key) t)
 
 -- a pass: its table, its mutator, how many calls that made, and the number that its seat carries
 pub record PassView : Type 0 where

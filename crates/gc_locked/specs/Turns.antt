@@ -6,14 +6,14 @@ use Rattle.gc_locked.specs.declared.locked.Turn.TheVariants.{Busy, Vain, Made}
 use Rattle.gc_locked.specs.declared.setup.Setup.{Setup}
 use Rattle.gc_locked.specs.Guarded.{GuardedHeap, IsEntered}
 use Rattle.gc_locked.specs.Locked.{LockedHeap, PassView, number_of}
-use Rattle.gc_locked.specs.Setup.{count_of, lines_of, plan_of}
+use Rattle.gc_locked.specs.Setup.{count_of, lines_of, places_of}
 
--- the seat holds a heap for which this call is the mutator's next
-pub record HoldsFor (setup : Setup) (t : ℕ) (call : Call) (held : List (ℕ × GuardedHeap)) : Type 0 where
+-- the seat holds a heap for which the call at this place is the mutator's next
+pub record HoldsFor (setup : Setup) (t : ℕ) (place : ℕ) (held : List (ℕ × GuardedHeap)) : Type 0 where
   pub guarded : GuardedHeap
   pub held_is : held ≡ (0, guarded) ∷ []
   pub setup_is : guarded.setup ≡ setup
-  pub next : slice_get (plan_of (lines_of setup) t) (count_of t guarded.journal) ≡ Some call
+  pub next : slice_get (places_of (lines_of setup) t) (count_of t guarded.journal) ≡ Some place
 
 -- the call was made on the heap that the seat held, and it holds what came of that
 pub record HasMadeOn (before : GuardedHeap) (setup : Setup) (t : ℕ) (call : Call) (entered : Bool) (held : List (ℕ × GuardedHeap))

@@ -1,36 +1,41 @@
 //! What the lock guards: the heap and the journal. Its type keeps that the heap stands for the journal, and that the
 //! report places and the journal's memory are enough for the calls that are still to be made.
-ghost use Rattle.std.specs.Prelude.{◌≡◌, ◌+◌, ◌<◌, ◌≤◌, ◌++◌, [], length, slice_get, vec_capacity, IfOk, IsTrue, Some};
+ghost use Rattle.std.specs.Prelude.{◌≡◌, ◌+◌, ◌-◌, ◌<◌, ◌≤◌, ◌++◌, [], length, slice_get, vec_capacity, IfOk, IsTrue, Some};
+ghost use Rattle.std.specs.List.{range_with_len};
 ghost use Rattle.gc_model.specs.Answer.{IsFit};
 ghost use Rattle.gc_solo.specs.Stands.{StandsFor};
-ghost use Rattle.gc_locked.specs.Guarded.{IsEntered, StandsForItsJournal, asks_again, entries_of};
+ghost use Rattle.gc_locked.specs.Guarded.{IsEntered, StandsForItsJournal, asks_again};
 ghost use Rattle.gc_locked.specs.Locked.{AreFit};
-ghost use Rattle.gc_locked.specs.Setup.{allowance_of_lines, count_of, heap_of, lines_of, mutators_of, plan_of};
+ghost use Rattle.gc_locked.specs.Order.{IsKept, journal_of};
+ghost use Rattle.gc_locked.specs.Setup.{allowance_of_lines, call_at, count_of, heap_of, lines_of, mutators_of, places_of};
 
 use crate::setup::Setup;
 use gc_layout::NoMemory;
-use gc_model::{Call, Entry, Line, Reply, RunReport};
+use gc_model::{Call, Line, Reply};
 use gc_solo::Solo;
 use std::alloc::Global;
 use std::marker::Model;
-use std::snapshot::Snapshot;
 
 /// The heap, and the journal of what was called on it.
 #[derive(Drop)]
 pub struct Guarded {
     solo: Solo,
-    journal: Vec<Entry>,
+    /// The places of the calls that were made, in that order. A collection has the place of its report, behind those of
+    /// all calls.
+    order: Vec<u32>,
+    /// The reply at each place, once its call was made.
+    replies: Vec<Reply>,
     setup: Setup,
 }
 
 impl Model for Guarded {
-    ghost use Rattle.gc_locked.specs.Guarded.{GuardedHeap, StandsForItsJournal, guarded_of};
+    ghost use Rattle.gc_locked.specs.Guarded.{GuardedHeap, IsGuarded, guarded_of};
 
     ghost Value = { GuardedHeap };
 
     ghost view = { guarded_of };
 
-    ghost invariant = { λ guarded. StandsForItsJournal (guarded_of guarded) };
+    ghost invariant = { IsGuarded };
 }
 
 impl Guarded {
@@ -48,56 +53,66 @@ impl Guarded {
         requires fit { AreFit solo.types solo.layout.mutators lines.now.items }
         requires few { length lines.now.items ≤ 16777216 }
         requires allowance { reports ≡ allowance_of_lines lines.now.items }
+        requires most { reports ≤ 33554432 }
         requires room { solo.room ≡ reports }
         ensures journal { IfOk result (λ guarded. guarded.journal ≡ []) }
         ensures heap { IfOk result (λ guarded. guarded.setup.heap.value ≡ solo) }
         ensures lines { IfOk result (λ guarded. guarded.setup.lines.value ≡ lines.now) }
     {
-        let most = lines.len() + mutators as usize + reports as usize;
-        let Ok(journal) = Vec::with_capacity(alloc, most) else {
+        let places = lines.len() + mutators as usize;
+        let Ok(order) = Vec::with_capacity(alloc, places + reports as usize) else {
+            return Err(NoMemory);
+        };
+        let Ok(replies) = vec![in alloc; Reply::Done; places] else {
             return Err(NoMemory);
         };
         let setup = Setup::of(&solo, lines);
         Ok(Guarded {
             solo,
-            journal,
+            order,
+            replies,
             setup,
         })
     }
 
-    /// Makes the next call of a mutator's plan. The collections that it brought and the call with its reply enter the
-    /// journal; but an Await that finds nothing is left out and is to be asked again, unless this is the last time.
-    /// It takes no memory.
-    pub(crate) fn enter(&mut self, t: u8, call: &Call, last: bool) -> bool
+    /// Makes a mutator's next call, which stands at this place. The collections that it brought and the call with its
+    /// reply enter the journal; but an Await that finds nothing is left out and is to be asked again, unless this is the
+    /// last time. It takes no memory.
+    pub(crate) fn enter(&mut self, t: u8, place: u32, call: &Call, last: bool) -> bool
         requires fit { IsFit (heap_of self.old.setup).types (mutators_of self.old.setup) t call.now }
-        requires next { slice_get (plan_of (lines_of self.old.setup) t) (count_of t self.old.journal) ≡ Some call.now }
+        requires next { slice_get (places_of (lines_of self.old.setup) t) (count_of t self.old.journal) ≡ Some place }
+        requires call { call.now ≡ call_at (lines_of self.old.setup) place }
         ensures entered { IsEntered result self.old self.new t call.now }
         ensures setup { self.new.setup ≡ self.old.setup }
         ensures last { IsTrue last → IsTrue result }
     {
-        let before = self.solo.reports().len();
+        let before = self.replies.len() + self.solo.reports().len();
         let reply = self.solo.call(t, call);
         if !last && asks_again(call, reply) {
             return false;
         }
-        let (_, runs) = self.solo.reports().split_at(before);
-        append(&mut self.journal, runs, t, call, reply);
+        let behind = self.replies.len() + self.solo.reports().len();
+        append(&mut self.order, before, behind);
+        self.order.push_reserved(place);
+        self.replies[place as usize] = reply;
         true
     }
 
-    /// The journal, without the heap that stood for it.
-    pub(crate) fn into_parts(self) -> (Vec<Entry>, Snapshot<Solo>)
-        ensures entries { result.0.items ≡ self.journal }
-        ensures heap { result.1.value ≡ self.heap }
+    /// The heap, the order of the places, and the replies at them.
+    pub(crate) fn into_parts(self) -> (Solo, Vec<u32>, Vec<Reply>)
+        ensures heap { result.0 ≡ self.heap }
+        ensures journal { journal_of (lines_of self.setup) result.2.items self.heap.reports result.1.items ≡ self.journal }
+        ensures kept { IsKept (mutators_of self.setup) (lines_of self.setup) result.2.items self.heap.reports result.1.items }
+        ensures few { mutators_of self.setup < 256 }
         ensures stands { StandsForItsJournal self }
     {
         let Guarded {
             solo,
-            journal,
+            order,
+            replies,
             setup: _,
         } = self;
-        let heap = Snapshot::of(&solo);
-        (journal, heap)
+        (solo, order, replies)
     }
 }
 
@@ -111,19 +126,15 @@ fn asks_again(call: &Call, reply: Reply) -> bool
     }
 }
 
-/// Appends the entries of a call: the collections that it brought, and the call with its reply. There is memory for
-/// them.
-fn append(journal: &mut Vec<Entry>, runs: &[RunReport], t: u8, call: &Call, reply: Reply)
-    requires memory { length journal.old.items + length runs.now < vec_capacity journal.old }
-    ensures entries { journal.new.items ≡ journal.old.items ++ entries_of runs.now t call.now reply }
-    ensures memory { vec_capacity journal.new ≡ vec_capacity journal.old }
+/// Appends the places from one on and up to another. There is memory for them.
+fn append(order: &mut Vec<u32>, first: usize, behind: usize)
+    requires memory { length order.old.items + (behind - first) ≤ vec_capacity order.old }
+    requires rise { first ≤ behind }
+    requires few { behind ≤ 4294967296 }
+    ensures places { order.new.items ≡ order.old.items ++ range_with_len first (behind - first) }
+    ensures memory { vec_capacity order.new ≡ vec_capacity order.old }
 {
-    for run in runs {
-        journal.push_reserved(Entry::Run(*run));
+    for place in first..behind {
+        order.push_reserved(place as u32);
     }
-    journal.push_reserved(Entry::Made {
-        mutator: t,
-        call: *call,
-        reply,
-    });
 }

@@ -11,8 +11,13 @@
 //! seat says that carries its number. That the heap stands for its journal is a fact of the type that lies in the
 //! place, so it holds at each moment at which the lock is got.
 //!
+//! The journal is kept by places: each line has one, and behind the lines each mutator's End. Of a call are noted its
+//! place, behind those of the calls before it, and its reply, at that place. So the replies to the lines stand in the
+//! order of the lines when the last one is made.
+//!
 //! `setup` says what a locked heap is made for, `guarded` has what the lock guards, `view` and `rule` the table's
-//! rule and the names of its steps, `plan` the calls of each mutator, `pass`, `locked` and `journal` the public types.
+//! rule and the names of its steps, `plan` the places of each mutator's calls, `pass`, `locked` and `journal` the public
+//! types.
 #![tactic(auto)]
 
 mod guarded;

@@ -3,7 +3,7 @@ ghost use Rattle.std.specs.Prelude.{◌≡◌, ◌+◌, ◌<◌, ◌≤◌, [], 
 ghost use Rattle.gc_model.specs.Answer.{IsFit};
 ghost use Rattle.gc_model.specs.History.{calls_in};
 ghost use Rattle.gc_solo.specs.Stands.{StandsFor};
-ghost use Rattle.gc_locked.specs.Setup.{count_of, heap_of, lines_of, mutators_of, plan_of};
+ghost use Rattle.gc_locked.specs.Setup.{call_at, count_of, heap_of, lines_of, mutators_of, places_of};
 
 use crate::guarded::Guarded;
 use crate::journal::Journal;
@@ -29,7 +29,7 @@ const MOST_ASKS: u32 = 1_000_000;
 pub struct Locked {
     table: Lock,
     lines: Vec<Line>,
-    /// Of each mutator the places of its calls among the lines.
+    /// Of each mutator the places of its calls, in the order in which it makes them.
     plans: Vec<Vec<u32>>,
 }
 
@@ -118,11 +118,11 @@ impl Locked {
         ensures mutator { pass.new.mutator ≡ pass.old.mutator }
         ensures made { pass.new.made ≡ pass.old.made + 1 }
     {
-        let call = self.next_call(pass.mutator, pass.made);
+        let (place, call) = self.next_call(pass.mutator, pass.made);
         let mut asks_left = MOST_ASKS;
         let backoff = Backoff::new();
         for _ in rt.forever() {
-            match self.turn(pass, &call, asks_left <= 1) {
+            match self.turn(pass, place, &call, asks_left <= 1) {
                 Turn::Made => break,
                 Turn::Vain => asks_left = asks_left.saturating_sub(1),
                 Turn::Busy => {}
@@ -132,22 +132,24 @@ impl Locked {
         pass.made += 1;
     }
 
-    /// The call of a mutator behind so many that it made.
-    fn next_call(&self, mutator: u8, made: u32) -> Call
+    /// The call of a mutator behind so many that it made, and the place of that call.
+    fn next_call(&self, mutator: u8, made: u32) -> (u32, Call)
         requires mutator { mutator < mutators_of self.now.setup }
         requires left { made ≤ length (calls_in mutator (lines_of self.now.setup)) }
-        ensures next { slice_get (plan_of (lines_of self.now.setup) mutator) made ≡ Some result }
-        ensures fit { IsFit (heap_of self.now.setup).types (mutators_of self.now.setup) mutator result }
+        ensures next { slice_get (places_of (lines_of self.now.setup) mutator) made ≡ Some result.0 }
+        ensures call { result.1 ≡ call_at (lines_of self.now.setup) result.0 }
+        ensures fit { IsFit (heap_of self.now.setup).types (mutators_of self.now.setup) mutator result.1 }
         ensures few { made ≤ 16777216 }
     {
         let place = self.plans[mutator as usize][made as usize];
-        call_at(self.lines.as_slice(), place)
+        (place, call_at(self.lines.as_slice(), place))
     }
 
-    /// Makes the next call of the pass's mutator, where the lock is to be had at once.
-    fn turn(&self, pass: &mut Pass, call: &Call, last: bool) -> Turn
+    /// Makes the next call of the pass's mutator, which stands at this place, where the lock is to be had at once.
+    fn turn(&self, pass: &mut Pass, place: u32, call: &Call, last: bool) -> Turn
         requires own { IsPassOf self.now pass.old }
-        requires next { slice_get (plan_of (lines_of self.now.setup) pass.old.mutator) pass.old.made ≡ Some call.now }
+        requires next { slice_get (places_of (lines_of self.now.setup) pass.old.mutator) pass.old.made ≡ Some place }
+        requires call { call.now ≡ call_at (lines_of self.now.setup) place }
         requires fit { IsFit (heap_of self.now.setup).types (mutators_of self.now.setup) pass.old.mutator call.now }
         ensures counted { pass.new ≡ counted_to self.now pass.old (made_by result) }
     {
@@ -159,21 +161,30 @@ impl Locked {
         {
             return Turn::Busy;
         }
-        let entered = self.enter(&mut pass.seat, pass.mutator, call, last);
+        let entered = self.enter(&mut pass.seat, pass.mutator, place, call, last);
         self.table.shared.store::<Release>(&mut pass.seat, 0, 0);
         if entered { Turn::Made } else { Turn::Vain }
     }
 
     /// Makes a call on the heap that the seat holds.
-    fn enter(&self, seat: &mut Seat<Guarded, View>, t: u8, call: &Call, last: bool) -> bool
+    fn enter(
+        &self,
+        seat: &mut Seat<Guarded, View>,
+        t: u8,
+        place: u32,
+        call: &Call,
+        last: bool,
+    ) -> bool
         requires table { seat.old.table_id ≡ self.now.table }
-        requires holds { HoldsFor self.now.setup t call.now seat.old.me.1 }
+        requires holds { HoldsFor self.now.setup t place seat.old.me.1 }
+        requires call { call.now ≡ call_at (lines_of self.now.setup) place }
         requires fit { IsFit (heap_of self.now.setup).types (mutators_of self.now.setup) t call.now }
         ensures seat { (seat.new.table_id ≡ seat.old.table_id) × (seat.new.id ≡ seat.old.id) × (seat.new.me.0 ≡ seat.old.me.0) }
         ensures made { (before : GuardedHeap) → seat.old.me.1 ≡ (0, before) ∷ []
             → HasMadeOn before self.now.setup t call.now result seat.new.me.1 }
     {
-        seat.slot_mut(&self.table.shared, 0).enter(t, call, last)
+        seat.slot_mut(&self.table.shared, 0)
+            .enter(t, place, call, last)
     }
 
     /// Takes all passes, and hands the journal back: it is legal, and has of each mutator the first calls of its
@@ -181,7 +192,7 @@ impl Locked {
     pub fn finish(self, passes: Vec<Pass>) -> Journal
         requires all { AreAllPasses self passes.items }
         ensures finished { IsFinished self passes.items result }
-        ensures lines { result.lines ≡ Some (lines_of self.setup) }
+        ensures lines { result.lines ≡ lines_of self.setup }
         ensures stands { StandsFor result.heap result.entries }
     {
         let seat = self.gather(passes);
@@ -191,12 +202,13 @@ impl Locked {
             plans: _,
         } = self;
         let mut closed = table.close_with(seat);
-        let (entries, heap) = closed.take(0).into_parts();
+        let (solo, order, replies) = closed.take(0).into_parts();
         closed.free();
         Journal {
-            entries,
-            heap,
-            lines: Some(lines),
+            solo,
+            lines,
+            order,
+            replies,
         }
     }
 

@@ -1,6 +1,6 @@
 //! What each mutator calls: its lines in their order, and one End.
-ghost use Rattle.std.specs.Prelude.{◌≡◌, ◌<◌, ◌≤◌, ◌*◌, ℕ, length, map, slice_get, IfOk, Some};
-ghost use Rattle.gc_locked.specs.Setup.{allowance_of_lines, call_at, plan_of};
+ghost use Rattle.std.specs.Prelude.{◌≡◌, ◌+◌, ◌<◌, ◌≤◌, ◌*◌, ℕ, length, map, slice_get, IfOk, Some};
+ghost use Rattle.gc_locked.specs.Setup.{allowance_of_lines, call_at, mutator_at, places_of};
 
 use gc_model::{Call, Line};
 use std::alloc::{AllocError, Global};
@@ -18,8 +18,8 @@ pub(crate) fn allowance(lines: &[Line]) -> u32
     sum
 }
 
-/// What each mutator calls: the places of its lines among all of them, and behind these the place behind the last line, which
-/// stands for its End.
+/// The places of each mutator's calls, in the order in which it makes them: of its lines among all of them, and behind all
+/// lines of its End.
 pub(crate) fn plans(
     alloc: Global,
     lines: &[Line],
@@ -27,7 +27,7 @@ pub(crate) fn plans(
 ) -> Result<Vec<Vec<u32>>, AllocError>
     requires few { length lines.now ≤ 16777216 }
     ensures plans { IfOk result (λ plans. (t : ℕ) → t < mutators
-        → slice_get (map (λ plan. map (call_at lines.now) plan.items) plans.items) t ≡ Some (plan_of lines.now t)) }
+        → slice_get (map (λ plan. plan.items) plans.items) t ≡ Some (places_of lines.now t)) }
 {
     let mut plans = Vec::new(alloc);
     for t in 0..mutators {
@@ -36,10 +36,10 @@ pub(crate) fn plans(
     Ok(plans)
 }
 
-/// What a mutator calls.
+/// The places of a mutator's calls.
 fn plan(alloc: Global, lines: &[Line], t: u8) -> Result<Vec<u32>, AllocError>
     requires few { length lines.now ≤ 16777216 }
-    ensures plan { IfOk result (λ plan. map (call_at lines.now) plan.items ≡ plan_of lines.now t) }
+    ensures plan { IfOk result (λ plan. plan.items ≡ places_of lines.now t) }
 {
     let mut places = Vec::new(alloc);
     for index in 0..lines.len() {
@@ -47,16 +47,27 @@ fn plan(alloc: Global, lines: &[Line], t: u8) -> Result<Vec<u32>, AllocError>
             places.push(index as u32)?;
         }
     }
-    places.push(lines.len() as u32)?;
+    places.push(lines.len() as u32 + u32::from(t))?;
     Ok(places)
 }
 
-/// The call at a place among lines, where behind the last one stands End.
+/// The call at a place: that of the line there, or behind the lines an End.
 pub(crate) fn call_at(lines: &[Line], place: u32) -> Call
     ensures { result ≡ call_at lines.now place }
 {
     match lines.get(place as usize) {
         Some(line) => line.call,
         None => Call::End,
+    }
+}
+
+/// The mutator whose call stands at a place.
+pub(crate) fn mutator_at(lines: &[Line], place: u32) -> u8
+    requires { place < length lines.now + 256 }
+    ensures { result ≡ mutator_at lines.now place }
+{
+    match lines.get(place as usize) {
+        Some(line) => line.mutator,
+        None => (place as usize - lines.len()) as u8,
     }
 }

@@ -75,6 +75,7 @@ fn two_mutators_step_in_turn(rt: HostRuntime) -> Result<(), Fail> {
     assert_eq!(rt; (first.mutator(), second.mutator()), (0, 1));
     let journal = finish_pair(rt.alloc(), locked, first, second)?;
     assert_entries(&rt, &journal, &wanted);
+    assert_replies(&rt, &journal, &[Done, Done, Done, Nil, Done, Number(7)]);
     Ok(())
 }
 
@@ -143,6 +144,8 @@ fn a_collection_stands_before_its_collect(rt: HostRuntime) -> Result<(), Fail> {
     ];
     let journal = play_alone(&rt, rt.alloc(), &lines)?;
     assert_entries(&rt, &journal, &wanted);
+    assert_replies(&rt, &journal, &[Done; 4]);
+    assert_eq!(rt; journal.reports().len(), 2);
     Ok(())
 }
 
@@ -274,8 +277,17 @@ fn calls_of(lines: &[Line], t: u8) -> usize
     count
 }
 
+/// Tests that the journal has these replies to the lines, in their order.
+fn assert_replies<R: Abort>(rt: &R, journal: &Journal, wanted: &[Reply]) {
+    assert_eq!(rt; journal.replies().len(), wanted.len());
+    for number in 0..wanted.len() {
+        assert_eq!(rt; journal.replies()[number], wanted[number], "line {number}");
+    }
+}
+
 /// Tests that the journal has these entries and no more.
 fn assert_entries<R: Abort>(rt: &R, journal: &Journal, wanted: &[Entry]) {
+    assert_eq!(rt; journal.count(), wanted.len());
     for (index, entry) in wanted.iter().enumerate() {
         assert_eq!(rt; journal.entry(index), Some(*entry), "at {index}");
     }

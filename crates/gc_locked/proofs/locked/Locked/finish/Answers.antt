@@ -1,22 +1,25 @@
-use Rattle.std.proofs.Common.{◌≡◌, ◌<◌, ◌≤◌, ◌∙◌, All, ap, map, subst, sym, ℕ}
+use Rattle.std.proofs.Common.{◌≡◌, ◌<◌, ◌≤◌, ◌∙◌, All, List, ap, map, subst, sym, ℕ}
 use mathlib.Core.Option.{some-injective}
 use Rattle.atomic_table.specs.Table.{Me}
-use Rattle.gc_model.specs.History.{History}
-use Rattle.gc_solo.specs.Kept.{Kept}
-use Rattle.gc_solo.specs.Stands.{StandsFor}
 use Rattle.gc_locked.specs.declared.setup.Setup.{Setup}
 use Rattle.gc_locked.specs.declared.view.View.{View}
 use Rattle.gc_locked.specs.Guarded.{GuardedHeap}
-use Rattle.gc_locked.specs.Locked.{LockedHeap}
+use Rattle.gc_locked.specs.Locked.{LockedHeap, PassView}
 use Rattle.gc_locked.specs.Rule.{IsNumberIn, times_in}
-use Rattle.gc_locked.specs.Setup.{mutators_of}
-use Rattle.gc_locked.proofs.Passes.{finished-as, own_number, pass-carried}
+use Rattle.gc_locked.specs.Setup.{lines_of, mutators_of}
+use Rattle.gc_locked.proofs.Handed.{handed-back, handed-entries, handed-journal}
+use Rattle.gc_locked.proofs.Passes.{finished, own_number, pass-carried}
 use Rattle.gc_locked.proofs.Steps.{ends}
 use Rattle.gc_locked.proofs.locked.Locked.finish.Goals as goal
 
+-- what was found under the lock
+pub record HasFound (locked : LockedHeap) (passes : List PassView) (key : Setup) (taken : GuardedHeap) : Type 0 where
+  pub setup_is : taken.setup ≡ key
+  pub numbers : All (IsNumberIn locked.setup taken.journal) (map (own_number locked.setup) passes)
+
 -- the heap was at home, and its journal has the calls of all passes
-pub returns-clause-finished : goal.returns-clause-finished
-returns-clause-finished c =
+found : (c : goal.After-drop-self-inside) → HasFound c.args.self c.args.passes.items c.self.inside.table.shared.key c.take.result
+found c =
     let locked = c.args.self in
     let passes = c.args.passes.items in
     let seat = c.gather-seat.result in
@@ -30,15 +33,40 @@ returns-clause-finished c =
     (pass-carried locked.setup t passes (c.requires.all.each t (subst (λ (setup : Setup). t < mutators_of setup) same there))) in
     let (guarded, at, setup_is, numbers) = ends key seat.id seat.me.0 _ _ free all c.close_with-closed.ensures.values.2 in
     let taken : guarded ≡ c.take.result = some-injective _ _ (sym at ∙ c.take.ensures.value) in
-    let own = subst (λ (each : GuardedHeap). All (IsNumberIn locked.setup each.journal) (map (own_number locked.setup) passes)) taken
-    (subst (λ (setup : Setup). All (IsNumberIn setup guarded.journal) (map (own_number locked.setup) passes)) same
-    (subst (λ each. All (IsNumberIn key guarded.journal) each) carried numbers)) in
-    finished-as locked passes c.take.result _ (sym (ap (λ (each : GuardedHeap). each.setup) taken) ∙ setup_is ∙ same)
-    c.into_parts-entries.ensures.stands own _ _ c.into_parts-entries.ensures.entries c.into_parts-entries.ensures.heap
+    record {
+      setup_is = sym (ap (λ (each : GuardedHeap). each.setup) taken) ∙ setup_is;
+      numbers =
+          subst (λ (each : GuardedHeap). All (IsNumberIn locked.setup each.journal) (map (own_number locked.setup) passes)) taken
+          (subst (λ (setup : Setup). All (IsNumberIn setup guarded.journal) (map (own_number locked.setup) passes)) same
+          (subst (λ each. All (IsNumberIn key guarded.journal) each) carried numbers));
+    }
 
--- and the heap stood for it
+pub returns-clause-finished : goal.returns-clause-finished
+returns-clause-finished c =
+    let key = c.self.inside.table.shared.key in
+    let same : key ≡ c.args.self.setup = ap (λ (each : LockedHeap). each.setup) c.self.view_is in
+    let own = found c in
+    let parts = c.into_parts-solo.ensures in
+    finished c.args.self c.args.passes.items c.take.result _ (own.setup_is ∙ same) parts.stands own.numbers
+    (handed-entries c.take.result key c.into_parts-solo.result.0 c.self.inside.lines.items c.into_parts-solo.result.2.items
+    c.into_parts-solo.result.1.items own.setup_is parts.heap c.self.invariant.kept parts.journal)
+    parts.heap
+
+-- and the heap stands for it
+pub invariant_of-result : goal.invariant_of-result
+invariant_of-result c =
+    let parts = c.into_parts-solo.ensures in
+    handed-journal _
+    (handed-back c.take.result c.self.inside.table.shared.key c.into_parts-solo.result.0 c.self.inside.lines.items
+    c.into_parts-solo.result.2.items c.into_parts-solo.result.1.items (found c).setup_is c.self.invariant.fit parts.stands parts.heap
+    c.self.invariant.kept parts.few c.self.invariant.few parts.kept parts.journal)
+
 pub returns-clause-stands : goal.returns-clause-stands
 returns-clause-stands c =
-    subst (λ (heap : Kept). StandsFor heap c.into_parts-entries.result.0.items) (sym c.into_parts-entries.ensures.heap)
-    (subst (λ (entries : History). StandsFor c.take.result.heap entries) (sym c.into_parts-entries.ensures.entries)
-    c.into_parts-entries.ensures.stands.stands)
+    let parts = c.into_parts-solo.ensures in
+    (handed-back c.take.result c.self.inside.table.shared.key c.into_parts-solo.result.0 c.self.inside.lines.items
+    c.into_parts-solo.result.2.items c.into_parts-solo.result.1.items (found c).setup_is c.self.invariant.fit parts.stands parts.heap
+    c.self.invariant.kept parts.few c.self.invariant.few parts.kept parts.journal).stands
+
+pub returns-clause-lines : goal.returns-clause-lines
+returns-clause-lines c = c.self.invariant.kept ∙ ap (λ (each : LockedHeap). lines_of each.setup) c.self.view_is

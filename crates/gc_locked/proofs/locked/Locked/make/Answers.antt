@@ -6,7 +6,7 @@ use Rattle.gc_locked.specs.declared.setup.Setup.{Setup}
 use Rattle.gc_locked.specs.Guarded.{GuardedHeap}
 use Rattle.gc_locked.specs.Locked.{AreFit}
 use Rattle.gc_locked.specs.Rule.{IsRuled, first_view}
-use Rattle.gc_locked.specs.Setup.{call_at, heap_of, lines_of, mutators_of, plan_of}
+use Rattle.gc_locked.specs.Setup.{heap_of, lines_of, mutators_of, places_of}
 use Rattle.gc_locked.proofs.Passes.{setup-same}
 use Rattle.gc_locked.proofs.Steps.{opens}
 use Rattle.gc_locked.proofs.locked.Locked.make.Goals as goal
@@ -44,8 +44,7 @@ invariant_of-result c =
       few = subst (λ (each : Setup). length (lines_of each) ≤ 16777216) (sym key) (rw lines c.requires.few);
       kept = sym (ap lines_of key ∙ lines);
       plans = λ t there. subst (λ (each : Setup).
-          slice_get (map (λ plan. map (call_at c.args.lines.items) plan.items) c.in-Ok.plans.items) t
-          ≡ Some (plan_of (lines_of each) t)) (sym key)
+          slice_get (map (λ plan. plan.items) c.in-Ok.plans.items) t ≡ Some (places_of (lines_of each) t)) (sym key)
           (rw (lines, ← c.as_slice-2.ensures.value)
           (c.in-Ok.ensures.plans t (omega (arith, ap mutators_of key, there, mutators, c.mutators.ensures.mutators))));
     }

@@ -16,5 +16,5 @@ overflow_add-pass g c =
       ap (λ (pass : PassView). pass.made) c.pass-2.view_is,
       ap (λ (pass : PassView). pass.made) c.pass.view_is,
       same,
-      c.next_call-call.ensures.few,
+      c.next_call-place.ensures.few,
     )

@@ -5,7 +5,7 @@ use Rattle.gc_locked.specs.declared.view.View.{View}
 use Rattle.gc_locked.specs.Guarded.{GuardedHeap}
 use Rattle.gc_locked.specs.Locked.{IsPassOf, LockedHeap, PassView, number_of, pass_of}
 use Rattle.gc_locked.specs.Rule.{IsClaim, free_view}
-use Rattle.gc_locked.specs.Setup.{lines_of, plan_of}
+use Rattle.gc_locked.specs.Setup.{lines_of, places_of}
 use Rattle.gc_locked.specs.Turns.{made_by}
 use Rattle.gc_locked.proofs.Turns.{claim-requires, claimed, counted, holds-for, made-in, release-requires, released, rests}
 use Rattle.gc_locked.proofs.locked.Locked.turn.Goals as goal
@@ -31,14 +31,14 @@ enter-entered-requires-clause-holds c =
     let setup = c.args.self.now.setup in
     let pass = pass_of c.pass.inside in
     let own = subst (IsPassOf c.args.self.now) (sym c.pass.view_is) c.requires.own in
-    let next = subst (λ (each : PassView). slice_get (plan_of (lines_of setup) each.mutator) each.made ≡ Some c.args.call.now)
+    let next = subst (λ (each : PassView). slice_get (places_of (lines_of setup) each.mutator) each.made ≡ Some c.args.place)
     (sym c.pass.view_is) c.requires.next in
     let number = number_of setup pass.mutator pass.made in
     let me = c.pass.invariant.seat ∙ ap (λ (carried : List Carried). (free_view carried, [])) own.carried in
     let has = subst (λ n. IsClaim n c.pass.inside.seat.me c.compare_exchange.new.seat.me) c.if-compare_exchange-ne0.false
     c.compare_exchange.ensures.2 in
     let held = claimed number c.pass.inside.seat.me c.compare_exchange.new.seat.me me has in
-    holds-for setup pass.mutator pass.made c.args.call.now c.compare_exchange.new.seat.me held next
+    holds-for setup pass.mutator pass.made c.args.place c.compare_exchange.new.seat.me held next
 
 -- the call was made
 pub store-requires : goal.store-requires
