@@ -91,12 +91,14 @@ fn play<R: Abort + Threads + Wait + Sync, G: Gate + Sync>(
 /// The reply to a call of a mutator, counted from 0.
 fn reply_of(journal: &Journal, mutator: u8, number: usize) -> Option<Reply> {
     let mut before = number;
-    for entry in journal.entries() {
-        if let Entry::Made {
-            mutator: own,
-            reply,
-            ..
-        } = *entry
+    for index in 0..journal.count() {
+        if let Some(
+            Entry::Made {
+                mutator: own,
+                reply,
+                ..
+            },
+        ) = journal.entry(index)
             && own == mutator
         {
             if before == 0 {
@@ -122,13 +124,12 @@ fn assert_replies<R: Abort>(rt: &R, journal: &Journal, mutator: u8, wanted: &[Re
 
 /// The reports of the collections are these.
 fn assert_runs<R: Abort>(rt: &R, journal: &Journal, wanted: &[RunReport]) {
-    let mut count = 0;
-    for entry in journal.entries() {
-        if let Entry::Run(report) = *entry {
-            assert!(rt; count < wanted.len());
-            assert_eq!(rt; report, wanted[count], "collection {count}");
-            count += 1;
-        }
+    assert_eq!(rt; journal.reports().len(), wanted.len());
+    for number in 0..wanted.len() {
+        assert_eq!(rt;
+            journal.reports()[number],
+            wanted[number],
+            "collection {number}"
+        );
     }
-    assert_eq!(rt; count, wanted.len());
 }
