@@ -6,7 +6,6 @@ pub mod Lists
 pub mod MakeLemmas
 pub mod PieceLemmas
 pub mod PlayLemmas
-pub mod RunLemmas
 pub mod TextLemmas
 pub mod WalkLemmas
 pub mod WordLemmas

@@ -4,7 +4,8 @@ use Rattle.std.proofs.Math.Numerals.{add-one}
 use Rattle.gc_model.specs.declared.entry.RunReport.{RunReport}
 use Rattle.gc_model.specs.declared.reply.Reply.{Reply}
 use Rattle.gc_script.specs.Script.{Script, number_of_line}
-use Rattle.gc_cli.specs.Text.{lines_text, reply_line, report_line, reports_from}
+use Rattle.gc_cli.specs.declared.opts.Opts.{Opts}
+use Rattle.gc_cli.specs.Text.{lines_text, printed_text, reply_line, report_line, reports_from}
 use Rattle.gc_cli.proofs.Lists.{drop-at}
 
 -- the text of the replies that are left begins with the line of the next
@@ -19,3 +20,8 @@ lines_text-next script replies i reply h =
 pub reports_from-next : (number : ℕ) (reports : List RunReport) (i : ℕ) (report : RunReport) → slice_get reports i ≡ Some report
     → reports_from number (drop i reports) ≡ report_line number report ++ reports_from (number + 1) (drop (i + 1) reports)
 reports_from-next number reports i report h = rw (drop-at reports i report h, add-one i) refl
+
+-- the text of the same script, replies and reports
+pub same-text : (opts : Opts) (one other : Script) (replies own : List Reply) (reports all : List RunReport) → one ≡ other
+    → replies ≡ own → reports ≡ all → printed_text opts one replies reports ≡ printed_text opts other own all
+same-text opts one other replies own reports all same answered reported i = printed_text opts (same i) (answered i) (reported i)

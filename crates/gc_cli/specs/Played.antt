@@ -54,7 +54,7 @@ pub record IsHeapOf (kept : Kept) (configuration : Configuration) (history : His
   pub configuration_is : configuration_of kept ≡ configuration
   pub stands : StandsFor kept history
 
--- a journal is that of the heap that was asked for, it has these entries, and the heap stood for them
+-- a journal is that of the heap that was asked for, it has these entries, and the heap stands for them
 pub record IsJournalOf (journal : Entries) (configuration : Configuration) (history : History) : Type 0 where
   pub configuration_is : configuration_of journal.heap ≡ configuration
   pub stands : StandsFor journal.heap history

@@ -17,7 +17,7 @@ use crate::input::{InputFault, read_input};
 use crate::opts::Opts;
 use crate::output::write_text;
 use crate::play::{Played, play};
-use crate::run::{Ran, run};
+use crate::run::run;
 use crate::status::{Left, Outcome, Status};
 use gc_io::{Gate, Put, Sink, Source};
 use gc_script::{Script, ScriptFault, make_script, read_script, write_script};
@@ -79,7 +79,7 @@ pub fn play_bytes<S: Source, K: Sink>(
         Ok(script) => script,
         Err(status) => return Outcome::nothing_left(status),
     };
-    play_script(alloc, opts, &script, out)
+    play_script(alloc, opts, script, out)
 }
 
 /// Reads a script, plays it with a worker for each mutator, and writes what `play_bytes` writes. Each worker makes its
@@ -186,28 +186,29 @@ pub(crate) fn drill<K: Sink>(alloc: Global, rounds: u32, opts: &Opts, out: &mut 
         summary: true,
         ..*opts
     };
-    play_script(alloc, &opts, &script, out)
+    play_script(alloc, &opts, script, out)
 }
 
 /// Plays a script on one thread, and writes what is to be printed of it.
-fn play_script<K: Sink>(alloc: Global, opts: &Opts, script: &Script, out: &mut K) -> Outcome
+fn play_script<K: Sink>(alloc: Global, opts: &Opts, script: Script, out: &mut K) -> Outcome
     requires { AreAllowed opts.now }
     ensures done { result.status ≡ Status.Done → ((history : History)
-        × Prints opts.now (K.written out.old) (K.written out.new) (IsPlayedByOne result.left) script.now history) }
+        × Prints opts.now (K.written out.old) (K.written out.new) (IsPlayedByOne result.left) script history) }
     ensures write_fault { result.status ≡ Status.WriteFault → HasRisen (K.faults out.old) (K.faults out.new) }
     ensures write_part { result.status ≡ Status.WriteFault → ((history : History)
-        × PrintsInPart opts.now (K.written out.old) (K.written out.new) (IsPlayedByOne result.left) script.now history) }
+        × PrintsInPart opts.now (K.written out.old) (K.written out.new) (IsPlayedByOne result.left) script history) }
     ensures no_other { result.status ≢ Status.Done → result.status ≢ Status.WriteFault → result.status ≡ Status.NoMemory }
     ensures out_quiet { result.status ≢ Status.WriteFault → K.faults out.new ≡ K.faults out.old }
     ensures untouched { result.status ≢ Status.Done → result.status ≢ Status.WriteFault → out.new ≡ out.old }
     ensures left { result.status ≢ Status.Done → result.status ≢ Status.WriteFault → result.left ≡ Left.Nothing }
     ensures out_never_falls { K.faults out.old ≤ K.faults out.new }
 {
-    let Ok(played) = play(alloc, opts, script) else {
+    let Ok(played) = play(alloc, opts, &script) else {
         return Outcome::nothing_left(Status::NoMemory);
     };
     let Played { solo, replies } = played;
-    match write_text(opts, script, replies.as_slice(), solo.reports(), out) {
+    let (heading, _) = script.into_parts();
+    match write_text(opts, &heading, replies.as_slice(), solo.reports(), out) {
         Put::All => Outcome::solo_left(Status::Done, solo),
         Put::Failed => Outcome::solo_left(Status::WriteFault, solo),
     }
@@ -234,16 +235,10 @@ fn run_script<R: Threads + Wait + Sync, K: Sink, G: Gate + Sync>(
     ensures left { result.status ≢ Status.Done → result.status ≢ Status.WriteFault → result.left ≡ Left.Nothing }
     ensures out_never_falls { K.faults out.old ≤ K.faults out.new }
 {
-    let Ok(ran) = run(rt, alloc, opts, script, gate) else {
+    let Ok((journal, heading)) = run(rt, alloc, opts, script, gate) else {
         return Outcome::nothing_left(Status::NoMemory);
     };
-    let Ran {
-        script,
-        journal,
-        replies,
-        reports,
-    } = ran;
-    match write_text(opts, &script, replies.as_slice(), reports.as_slice(), out) {
+    match write_text(opts, &heading, journal.replies(), journal.reports(), out) {
         Put::All => Outcome::journal_left(Status::Done, journal),
         Put::Failed => Outcome::journal_left(Status::WriteFault, journal),
     }

@@ -6,6 +6,7 @@ ghost use Rattle.gc_io.specs.Streams.{Appends, AppendsPrefix};
 ghost use Rattle.gc_model.specs.declared.entry.RunReport.{RunReport as Report};
 ghost use Rattle.gc_model.specs.declared.reply.Reply.{Reply as GraphReply};
 ghost use Rattle.gc_script.specs.Script.{number_of_line};
+ghost use Rattle.gc_script.specs.Text.{most_bytes};
 ghost use Rattle.gc_cli.specs.Summary.{summary_text};
 ghost use Rattle.gc_cli.specs.Text.{printed_text, replies_text, reply_line, report_line, reports_text, summary_or_replies};
 
@@ -14,7 +15,7 @@ use crate::summary::summary_line;
 use crate::text::{reply_line, report_line};
 use gc_io::{Put, Sink};
 use gc_model::{Reply, RunReport};
-use gc_script::Script;
+use gc_script::Heading;
 
 /// Writes the replies to the lines of a script, or their summary where the options ask for it, and, where the
 /// options ask for them, the reports of the collections behind them, one piece a line, and stops at the first fault.
@@ -22,21 +23,21 @@ use gc_script::Script;
 #[tactic(auto, unfolding(crate::specs::Text::printed_text))]
 pub(crate) fn write_text<K: Sink>(
     opts: &Opts,
-    script: &Script,
+    heading: &Heading,
     replies: &[Reply],
     reports: &[RunReport],
     out: &mut K,
 ) -> Put
-    requires { length replies.now ≡ length script.now.lines }
+    requires { length replies.now ≤ most_bytes }
     ensures all { result ≡ Put.All → Appends (K.written out.old) (K.written out.new)
-        (printed_text opts.now script.now replies.now reports.now) }
+        (printed_text opts.now heading.now replies.now reports.now) }
     ensures quiet { result ≡ Put.All → K.faults out.new ≡ K.faults out.old }
     ensures failed { result ≡ Put.Failed → HasRisen (K.faults out.old) (K.faults out.new) }
     ensures part { result ≡ Put.Failed → AppendsPrefix (K.written out.old) (K.written out.new)
-        (printed_text opts.now script.now replies.now reports.now) }
+        (printed_text opts.now heading.now replies.now reports.now) }
     ensures never_falls { K.faults out.old ≤ K.faults out.new }
 {
-    match write_summary_or_replies(opts, script, replies, out) {
+    match write_summary_or_replies(opts, heading, replies, out) {
         Put::All if opts.reports => write_reports(reports, out),
         put => put,
     }
@@ -45,23 +46,23 @@ pub(crate) fn write_text<K: Sink>(
 /// Writes the summary of the replies where the options ask for it, or the replies to the lines of a script.
 fn write_summary_or_replies<K: Sink>(
     opts: &Opts,
-    script: &Script,
+    heading: &Heading,
     replies: &[Reply],
     out: &mut K,
 ) -> Put
-    requires { length replies.now ≡ length script.now.lines }
+    requires { length replies.now ≤ most_bytes }
     ensures all { result ≡ Put.All
-        → Appends (K.written out.old) (K.written out.new) (summary_or_replies opts.now script.now replies.now) }
+        → Appends (K.written out.old) (K.written out.new) (summary_or_replies opts.now heading.now replies.now) }
     ensures quiet { result ≡ Put.All → K.faults out.new ≡ K.faults out.old }
     ensures failed { result ≡ Put.Failed → HasRisen (K.faults out.old) (K.faults out.new) }
     ensures part { result ≡ Put.Failed
-        → AppendsPrefix (K.written out.old) (K.written out.new) (summary_or_replies opts.now script.now replies.now) }
+        → AppendsPrefix (K.written out.old) (K.written out.new) (summary_or_replies opts.now heading.now replies.now) }
     ensures never_falls { K.faults out.old ≤ K.faults out.new }
 {
     if opts.summary {
         write_summary(replies, out)
     } else {
-        write_replies(script, replies, out)
+        write_replies(heading, replies, out)
     }
 }
 
@@ -81,18 +82,18 @@ fn write_summary<K: Sink>(replies: &[Reply], out: &mut K) -> Put
 
 /// Writes the replies to the lines of a script, one piece a line, and stops at the first fault. It takes
 /// no memory.
-fn write_replies<K: Sink>(script: &Script, replies: &[Reply], out: &mut K) -> Put
-    requires { length replies.now ≡ length script.now.lines }
+fn write_replies<K: Sink>(heading: &Heading, replies: &[Reply], out: &mut K) -> Put
+    requires { length replies.now ≤ most_bytes }
     ensures all { result ≡ Put.All
-        → Appends (K.written out.old) (K.written out.new) (replies_text script.now replies.now) }
+        → Appends (K.written out.old) (K.written out.new) (replies_text heading.now replies.now) }
     ensures quiet { result ≡ Put.All → K.faults out.new ≡ K.faults out.old }
     ensures failed { result ≡ Put.Failed → HasRisen (K.faults out.old) (K.faults out.new) }
     ensures part { result ≡ Put.Failed
-        → AppendsPrefix (K.written out.old) (K.written out.new) (replies_text script.now replies.now) }
+        → AppendsPrefix (K.written out.old) (K.written out.new) (replies_text heading.now replies.now) }
     ensures never_falls { K.faults out.old ≤ K.faults out.new }
 {
     for index in 0..replies.len() {
-        match write_reply(script, replies, index, out) {
+        match write_reply(heading, replies, index, out) {
             Put::All => {}
             Put::Failed => return Put::Failed,
         }
@@ -101,18 +102,18 @@ fn write_replies<K: Sink>(script: &Script, replies: &[Reply], out: &mut K) -> Pu
 }
 
 /// Writes the reply to a line, counted from 0.
-fn write_reply<K: Sink>(script: &Script, replies: &[Reply], index: usize, out: &mut K) -> Put
+fn write_reply<K: Sink>(heading: &Heading, replies: &[Reply], index: usize, out: &mut K) -> Put
     requires there { index < length replies.now }
-    requires answered { length replies.now ≡ length script.now.lines }
+    requires few { length replies.now ≤ most_bytes }
     ensures all { (reply : GraphReply) → slice_get replies.now index ≡ Some reply → result ≡ Put.All
-        → Appends (K.written out.old) (K.written out.new) (reply_line (number_of_line script.now index) reply) }
+        → Appends (K.written out.old) (K.written out.new) (reply_line (number_of_line heading.now index) reply) }
     ensures quiet { result ≡ Put.All → K.faults out.new ≡ K.faults out.old }
     ensures failed { result ≡ Put.Failed → HasRisen (K.faults out.old) (K.faults out.new) }
     ensures part { (reply : GraphReply) → slice_get replies.now index ≡ Some reply → result ≡ Put.Failed
-        → AppendsPrefix (K.written out.old) (K.written out.new) (reply_line (number_of_line script.now index) reply) }
+        → AppendsPrefix (K.written out.old) (K.written out.new) (reply_line (number_of_line heading.now index) reply) }
     ensures never_falls { K.faults out.old ≤ K.faults out.new }
 {
-    let number = script.line_number(index).unwrap();
+    let number = heading.first_line() + index as u32;
     let line = reply_line(number, &replies[index]);
     out.put(line.as_bytes())
 }

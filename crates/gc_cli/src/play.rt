@@ -38,7 +38,7 @@ pub(crate) fn play(alloc: Global, opts: &Opts, script: &Script) -> Result<Played
 }
 
 /// How many collections the lines of a script may bring: two for each New, and one for each Collect.
-pub(crate) fn allowance(script: &Script) -> u32
+fn allowance(script: &Script) -> u32
     ensures { result ≡ sum_by (λ line. allowance_of line.call) script.now.lines }
 {
     let mut sum = 0;

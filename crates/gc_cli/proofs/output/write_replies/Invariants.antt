@@ -10,6 +10,6 @@ abbrev pub invariant-loop-index : goal.invariant-loop-index
 invariant-loop-index g l = record {
   text : List ℕ;
   appended : Appends (g.K.Sink.written l.fn.out) (g.K.Sink.written l.out) text;
-  whole : text ++ lines_text (number_of_line l.script l.index) (drop l.index l.replies) ≡ replies_text l.script l.replies;
+  whole : text ++ lines_text (number_of_line l.heading l.index) (drop l.index l.replies) ≡ replies_text l.heading l.replies;
   quiet : g.K.Sink.faults l.out ≡ g.K.Sink.faults l.fn.out;
 }
