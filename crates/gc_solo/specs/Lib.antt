@@ -1,4 +1,5 @@
 pub mod Allocation
+pub mod Calls
 pub mod Collecting
 pub mod Copying
 pub mod Fields
